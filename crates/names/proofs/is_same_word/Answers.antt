@@ -1,0 +1,9 @@
+use mathlib.Core.Path.{_≡_}
+use borrow.Author.Needs.{needs}
+use Rattle.std.proofs.shelf.Equals.{matches-decides, sameBytes-decides}
+use Rattle.names.proofs.is_same_word.Needs as need
+
+pub returns : need.returns
+returns c =
+    let d = matches-decides (c .args .a .now) (c .args .b .now) (c .eq .result) (c .eq .ensures) in
+    search (needs, sameBytes-decides)
