@@ -1,0 +1,3 @@
+// Families of cells: what a cell word means.
+pub mod family;
+pub mod pair;
