@@ -1,0 +1,4 @@
+pub mod Fronts
+pub mod Roads
+pub mod Cells
+pub mod Forms

@@ -1,0 +1,4 @@
+pub mod Sheet
+pub mod Verdicts
+pub mod Words
+pub mod Recogniser
