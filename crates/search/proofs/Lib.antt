@@ -1,0 +1,6 @@
+pub mod Settings
+pub mod Searching
+pub mod Worsts
+pub mod Turning
+pub mod Walks
+pub mod Passes

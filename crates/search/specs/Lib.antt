@@ -1,0 +1,4 @@
+pub mod Search
+pub mod Turns
+pub mod Walk
+pub mod Worst
