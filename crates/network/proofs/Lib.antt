@@ -1,0 +1,4 @@
+pub mod Filling
+pub mod Firsts
+pub mod Pushing
+pub mod Refused

@@ -1,0 +1,4 @@
+pub mod Least
+pub mod Sketches
+pub mod Refusals
+pub mod Drafts
