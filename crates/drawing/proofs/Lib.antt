@@ -1,0 +1,9 @@
+pub mod Stack
+pub mod Values
+pub mod Steps
+pub mod Turns
+pub mod Loop
+pub mod Drawn
+pub mod Onward
+pub mod Fitting
+pub mod OneAnswer
