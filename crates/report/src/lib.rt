@@ -1,0 +1,5 @@
+// Answers as text.
+mod answering;
+mod counting;
+pub mod desk;
+mod text;
