@@ -67,7 +67,11 @@ mod tests {
         // cut off after its bracket, a ninth cell is too deep all the same
         too_deep(rt.alloc(), &nine[0..49], 48)?;
         // what comes first by its place
-        broken(rt.alloc(), b"(line x (b 0 (b 0 (b 0 (b 0 (b 0 (b 0 (b 0 (b 00 (b 0 a", 47)
+        broken(
+            rt.alloc(),
+            b"(line x (b 0 (b 0 (b 0 (b 0 (b 0 (b 0 (b 0 (b 00 (b 0 a",
+            47,
+        )
     }
 
     #[test]
