@@ -12,7 +12,7 @@ use Rattle.std.specs.declared.option.Option.the-variants.{Some, None}
 use Rattle.sheets.specs.Sheet.{max-sheet, max-depth, Name, Delay, Pins, Form, LawfulForm, LawfulForms, form-depth, sheet-depth, form-text, sheet-text, cell-text, Broken, TooDeep}
 use Rattle.sheets.specs.Verdicts.{Verdict, Judged}
 use Rattle.sheets.specs.Words.{SheetWord, closes, cell-words, body-words, form-words, sheet-words}
-use Rattle.sheets.specs.Recogniser.{Item, Outcome, step, open-brackets, outcome, may-end, bytes-then}
+use Rattle.sheets.specs.Recogniser.{Item, Outcome, step, open-brackets, outcome, may-end, most-open, bytes-then}
 use Rattle.sheets.proofs.Complete.{goes, taken, left, forms-run}
 use Rattle.sheets.proofs.Verdict.{broken-verdict, deep-verdict}
 use Rattle.grammar.specs.declared.fault.GrammarFault.{GrammarFault}
@@ -100,10 +100,10 @@ as-input a [] e l h = absurd (omega arith)
 as-input a (c ∷ xs) e l h =
     ap (outcome 9 (Some start)) e ∙ by-open c xs _ (eqb c 40) refl (omega arith) (input-second xs (λ ys r. h c ys (e ∙ ap (λ v. c ∷ v) r))) ∙ sym (ap (outcome 9 (Some (input-items start))) e)
 
-pub line-stops : (a : At) (f : GrammarFault) → SecondIs 108 a true → Stops line-items 9 a f → NoForms a f
+pub line-stops : (a : At) (f : GrammarFault) → SecondIs 108 a true → Stops line-items most-open a f → NoForms a f
 line-stops a f h n = ends-as (a .text) f _ _ (as-line a h) (n start (omega arith))
 
-pub input-stops : (a : At) (f : GrammarFault) → a .place < length (a .text) → SecondIs 108 a false → Stops input-items 9 a f → NoForms a f
+pub input-stops : (a : At) (f : GrammarFault) → a .place < length (a .text) → SecondIs 108 a false → Stops input-items most-open a f → NoForms a f
 input-stops a f l h n = ends-as (a .text) f _ _ (as-input a (rest a) refl (omega (arith, length-drop (a .place) (a .text))) h) (n start (omega arith))
 
 -- Forms one after another.

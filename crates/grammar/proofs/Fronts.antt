@@ -30,21 +30,21 @@ each-more test s n l a h = subst (λ k. Each test (take k s)) (sym (add-one n)) 
 front-tail : (test : ℕ → Bool) (k : ℕ) (b : ℕ) (bs : List ℕ) (r : ℕ) → Front test (suc k) (b ∷ bs) (suc r) → Front test k bs r
 front-tail test k b bs r f = record { within = omega (arith, f .within); few = omega (arith, f .few); all = f .all .1; stops = λ l m. f .stops (omega arith) (omega arith) }
 
--- an item that reads such a front, a byte at a time, and may read less
-module _ (test : ℕ → Bool) (item : ℕ → Item)
-    (flat : (k : ℕ) (t : List Item) → open-brackets (item k ∷ t) ≡ open-brackets t)
-    (at-end : (k : ℕ) (t : List Item) → outcome 9 (Some (item k ∷ t)) [] ≡ outcome 9 (Some t) [])
-    (full : (t : List Item) (b : ℕ) → step (item 0 ∷ t) b ≡ step t b)
-    (one : (k : ℕ) (t : List Item) (b : ℕ) → step (item (suc k) ∷ t) b ≡ cond (test b) (Some (item k ∷ t)) (step t b)) where
-  front-moves : (k : ℕ) (s : List ℕ) (r : ℕ) (t : List Item) → open-brackets t ≤ 9 → Front test k s r → outcome 9 (Some (item k ∷ t)) s ≡ outcome 9 (Some t) (drop r s)
+-- a kind of what is asked that reads such a front, a byte at a time, and may read less
+module _ (test : ℕ → Bool) (kind : ℕ → Item)
+    (flat : (k : ℕ) (t : List Item) → open-brackets (kind k ∷ t) ≡ open-brackets t)
+    (at-end : (k : ℕ) (t : List Item) → outcome 9 (Some (kind k ∷ t)) [] ≡ outcome 9 (Some t) [])
+    (full : (t : List Item) (b : ℕ) → step (kind 0 ∷ t) b ≡ step t b)
+    (one : (k : ℕ) (t : List Item) (b : ℕ) → step (kind (suc k) ∷ t) b ≡ cond (test b) (Some (kind k ∷ t)) (step t b)) where
+  front-moves : (k : ℕ) (s : List ℕ) (r : ℕ) (t : List Item) → open-brackets t ≤ 9 → Front test k s r → outcome 9 (Some (kind k ∷ t)) s ≡ outcome 9 (Some t) (drop r s)
   front-moves k [] zero t ok f = at-end k t
   front-moves k [] (suc r) t ok f = absurd (omega (arith, f .within))
-  front-moves zero (b ∷ bs) zero t ok f = goes 9 (item 0 ∷ t) b bs (omega (arith, flat 0 t)) ∙ ap (λ o. outcome 9 o bs) (full t b) ∙ sym (goes 9 t b bs ok)
+  front-moves zero (b ∷ bs) zero t ok f = goes 9 (kind 0 ∷ t) b bs (omega (arith, flat 0 t)) ∙ ap (λ o. outcome 9 o bs) (full t b) ∙ sym (goes 9 t b bs ok)
   front-moves zero (b ∷ bs) (suc r) t ok f = absurd (omega (arith, f .few))
   front-moves (suc k) (b ∷ bs) zero t ok f =
-      goes 9 (item (suc k) ∷ t) b bs (omega (arith, flat (suc k) t)) ∙ ap (λ o. outcome 9 o bs) (one k t b ∙ left (test b) _ _ (f .stops (omega arith) (omega arith))) ∙ sym (goes 9 t b bs ok)
+      goes 9 (kind (suc k) ∷ t) b bs (omega (arith, flat (suc k) t)) ∙ ap (λ o. outcome 9 o bs) (one k t b ∙ left (test b) _ _ (f .stops (omega arith) (omega arith))) ∙ sym (goes 9 t b bs ok)
   front-moves (suc k) (b ∷ bs) (suc r) t ok f =
-      goes 9 (item (suc k) ∷ t) b bs (omega (arith, flat (suc k) t)) ∙ ap (λ o. outcome 9 o bs) (one k t b ∙ taken (test b) _ _ (f .all .0)) ∙ front-moves k bs r t ok (front-tail test k b bs r f)
+      goes 9 (kind (suc k) ∷ t) b bs (omega (arith, flat (suc k) t)) ∙ ap (λ o. outcome 9 o bs) (one k t b ∙ taken (test b) _ _ (f .all .0)) ∙ front-moves k bs r t ok (front-tail test k b bs r f)
 
 pub name-rest-moves : (k : ℕ) (s : List ℕ) (r : ℕ) (t : List Item) → open-brackets t ≤ 9 → Front name-byte k s r → outcome 9 (Some (Item.name-rest k ∷ t)) s ≡ outcome 9 (Some t) (drop r s)
 unfolding step outcome

@@ -7,7 +7,7 @@ ghost use lib.Chars.{codes};
 ghost use Rattle.std.specs.Results.{Cases};
 ghost use Rattle.sheets.specs.Sheet.{Name, CellWord, Delay};
 ghost use Rattle.sheets.specs.Words.{SheetWord, closes};
-ghost use Rattle.sheets.specs.Recogniser.{Item, bytes-then};
+ghost use Rattle.sheets.specs.Recogniser.{Item, bytes-then, most-open};
 ghost use Rattle.grammar.specs.Readers.{at};
 ghost use Rattle.grammar.specs.Readings.{rest, Took, NextIs, SecondIs, NotHere, Stops, Fails, WordRead, head-items, HeadRead, CellRead, PinRead, PinsRead, end-items, EndRead, input-items, line-items, NoForms, FormRead, AllRead};
 ghost use Rattle.std.specs.Of.Vec.{vec-items};
@@ -198,14 +198,14 @@ impl<'a> Reader<'a> {
 
     // The end of a form on its line.
     fn form_end(&mut self) -> Result<(), GrammarFault>
-        ensures { λ r. ⌜ Cases r (λ _. EndRead (at (now (self .entry))) (at (now (self .exit)))) (λ f. Stops end-items 9 (at (now (self .entry))) f) ⌝ }
+        ensures { λ r. ⌜ Cases r (λ _. EndRead (at (now (self .entry))) (at (now (self .exit)))) (λ f. Stops end-items most-open (at (now (self .entry))) f) ⌝ }
     {
         self.close()?;
         self.expect(b'\n')
     }
 
     fn input_form(&mut self) -> Result<(), GrammarFault>
-        ensures { λ r. ⌜ Cases r (λ _. FormRead (at (now (self .entry))) (at (now (self .exit)))) (λ f. Stops input-items 9 (at (now (self .entry))) f) ⌝ }
+        ensures { λ r. ⌜ Cases r (λ _. FormRead (at (now (self .entry))) (at (now (self .exit)))) (λ f. Stops input-items most-open (at (now (self .entry))) f) ⌝ }
     {
         self.opening(Opening::Input)?;
         self.literal(b"input ")?;
@@ -216,7 +216,7 @@ impl<'a> Reader<'a> {
     }
 
     fn line_form(&mut self) -> Result<(), GrammarFault>
-        ensures { λ r. ⌜ Cases r (λ _. FormRead (at (now (self .entry))) (at (now (self .exit)))) (λ f. Stops line-items 9 (at (now (self .entry))) f) ⌝ }
+        ensures { λ r. ⌜ Cases r (λ _. FormRead (at (now (self .entry))) (at (now (self .exit)))) (λ f. Stops line-items most-open (at (now (self .entry))) f) ⌝ }
     {
         self.opening(Opening::Line)?;
         self.literal(b"line ")?;
