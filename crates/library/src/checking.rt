@@ -5,7 +5,7 @@ ghost use lib.Dec.{ltb};
 ghost use Rattle.std.specs.Orderings.{Decides};
 ghost use Rattle.lines.specs.Limits.{max-pins};
 ghost use Rattle.library.specs.Entries.{Bad, is-for, assigned};
-ghost use Rattle.library.specs.Refusals.{EntriesChecked, number};
+ghost use Rattle.library.specs.Refusals.{EntriesChecked};
 use crate::entry::Entry;
 use crate::fault::LibraryFault;
 use lines::limits::MAX_PINS;
@@ -64,14 +64,4 @@ pub fn check_entries(entries: &[Entry]) -> Result<(), LibraryFault>
         }
     }
     Ok(())
-}
-
-impl LibraryFault {
-    // The number of the refusal.
-    pub fn number(self) -> u8
-        ensures { λ r. ⌜ r ≡ number self ⌝ }
-    {
-        let _ = self;
-        15
-    }
 }

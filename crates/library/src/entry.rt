@@ -1,7 +1,8 @@
 // What an entry of a library is.
 use names::name::Name;
 
-// The table of the cells of that name with so many pins. A name that was kept has at most eight bytes, and may be unlawful.
+// The table of the cells of that name with so many pins. The name may be an unlawful one of at most eight bytes;
+// one with more, which is unlawful too, cannot be kept.
 #[derive(Clone, Copy)]
 pub struct Entry {
     pub name: Name,

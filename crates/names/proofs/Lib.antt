@@ -1,2 +1,3 @@
-pub mod Scan
+pub mod Filling
 pub mod Same
+pub mod Scan

@@ -8,7 +8,7 @@ use crate::MAX_NAME;
 use crate::name::Name;
 
 impl Name {
-    // Keeps the bytes, lawful or not, of which there are at most eight.
+    // Keeps the bytes, lawful or not. There are at most eight: every lawful name has no more, and of others a caller sees to it.
     pub fn of(bytes: &[u8]) -> Self
         requires { ⌜ length (now bytes) ≤ max-name ⌝ }
         ensures { λ r. ⌜ bytes-of r ≡ now (bytes .entry) ⌝ }

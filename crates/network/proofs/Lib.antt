@@ -1,4 +1,4 @@
-pub mod Filling
 pub mod Firsts
+pub mod Places
 pub mod Pushing
 pub mod Refused

@@ -1,4 +1,4 @@
-// Why a draft refuses a call.
+// The refusals of a draft.
 ghost use mathlib.Core.Path.{_≡_};
 ghost use Rattle.network.specs.Refusals.{number};
 

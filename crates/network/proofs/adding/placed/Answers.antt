@@ -2,7 +2,8 @@ use mathlib.Core.Path.{_≡_, _∙_, subst}
 use native.Mathlib.Omega.{arith}
 use Prim.Native.Nat.{_-_}
 use lib.ListN.{length-set, length, take, drop, replicate}
-use Rattle.network.proofs.Filling.{filled, left-over, all-filled}
+use Rattle.names.proofs.Filling.{filled}
+use Rattle.network.proofs.Places.{left-over, all-filled}
 use Rattle.network.proofs.adding.placed.Needs as need
 
 pub loop-i-again : need.loop-i-again

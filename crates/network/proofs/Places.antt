@@ -1,13 +1,10 @@
--- A table filled from its front. Assumes nothing.
+-- What stands behind the places that were filled. Assumes nothing.
 use mathlib.Core.Path.{_≡_, sym, ap, _∙_}
-use mathlib.Core.List.{List, [], _∷_, _++_}
+use mathlib.Core.List.{List, _++_}
 use Prim.Native.Nat.{ℕ, _+_, _-_, _<_}
 use native.Mathlib.Omega.{arith}
-use lib.ListN.{length, take, drop, set, getD, replicate, take-append-drop}
-use Rattle.std.proofs.shelf.Lists.{take-more-set, take-more, drop-set-lt, drop-drop, drop-replicate, take-all}
-
-pub filled : {X : Type 0} (all xs : List X) (i : ℕ) (d : X) → i < length all → i < length xs → take i all ≡ take i xs → take (i + 1) (set all i (getD xs i d)) ≡ take (i + 1) xs
-filled all xs i d l h e = take-more-set all i (getD xs i d) l ∙ ap (λ v. v ++ (getD xs i d ∷ [])) e ∙ sym (take-more xs i d h)
+use lib.ListN.{length, take, drop, set, replicate, take-append-drop}
+use Rattle.std.proofs.shelf.Lists.{drop-set-lt, drop-drop, drop-replicate, take-all}
 
 pub left-over : (all : List ℕ) (i n x : ℕ) → i < n → drop i all ≡ replicate (n - i) 0 → drop (i + 1) (set all i x) ≡ replicate (n - (i + 1)) 0
 left-over all i n x l e =
