@@ -7,3 +7,4 @@ pub mod Drawn
 pub mod Onward
 pub mod Fitting
 pub mod OneAnswer
+pub mod Named

@@ -32,16 +32,18 @@ then (done x) next = next x
 abbrev pub delay-place : ℕ → List ℕ → ℕ
 delay-place at word = at + 1 + length word + 1
 
+-- the name of an input form, and its delay
 abbrev pub input-name-place : ℕ → ℕ
 input-name-place at = at + length (codes "(input ")
 
 abbrev pub input-delay-place : ℕ → List ℕ → ℕ
 input-delay-place at name = input-name-place at + length name + 1
 
+-- the name of a line form
 abbrev pub line-name-place : ℕ → ℕ
 line-name-place at = at + length (codes "(line ")
 
--- the outer cell of a line form
+-- its outer cell
 abbrev pub line-cell-place : ℕ → List ℕ → ℕ
 line-cell-place at name = line-name-place at + length name + 1
 
@@ -120,5 +122,6 @@ abbrev pub draw-forms : Tables → ℕ → List Form → Sketch → Answer Sketc
 draw-forms family at [] s = sealable at s
 draw-forms family at (form ∷ forms) s = then (draw-form family at form s) (λ drawn. draw-forms family (next-place at form) forms drawn)
 
+-- the forms of a sheet, into an empty draft
 abbrev pub draw-sheet : Tables → List Form → Answer Sketch
 draw-sheet family forms = draw-forms family 0 forms empty

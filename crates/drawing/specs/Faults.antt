@@ -14,6 +14,7 @@ pub record Refusal : Type 0 where
   pub number : ℕ
   pub place : ℕ
 
+-- the grammar's and the draft's faults keep their own numbers; 3 is a name of no line
 abbrev pub refusal : SheetFault → Refusal
 refusal (Grammar fault) = record { number = fault-number fault; place = fault-place fault }
 refusal (NoLine place) = record { number = 3; place = place }

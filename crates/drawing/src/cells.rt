@@ -9,9 +9,9 @@ ghost use Rattle.sheets.specs.Sheet.{max-depth};
 ghost use Rattle.drawing.specs.Fits.{inner-pins};
 ghost use Rattle.drawing.specs.Pens.{opened, open-stack};
 ghost use Rattle.drawing.specs.Pictures.{inner, inner-pin, with-word, with-delay, just-open};
-use crate::pen::MAX_DEPTH;
 use crate::pen::OpenCell;
 use crate::pen::Pen;
+use grammar::read::MAX_DEPTH;
 use lines::limits::MAX_PINS;
 use names::name::Name;
 

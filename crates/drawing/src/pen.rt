@@ -4,11 +4,9 @@ ghost use Prim.Native.Nat.{_≤_};
 ghost use lib.ListN.{length};
 ghost use Rattle.lines.specs.Limits.{max-pins};
 ghost use Rattle.sheets.specs.Sheet.{max-depth};
+use grammar::read::MAX_DEPTH;
 use lines::limits::MAX_PINS;
 use names::name::Name;
-
-// How many cells stand in one another at most, the outermost counted.
-pub(crate) const MAX_DEPTH: usize = 8;
 
 // A cell whose closing bracket is still to come.
 #[derive(Clone, Copy)]

@@ -6,6 +6,7 @@ ghost use Rattle.grammar.specs.Views.{views};
 ghost use Rattle.drawing.specs.Drawing.{then, sealable};
 ghost use Rattle.drawing.specs.Faults.{answered};
 ghost use Rattle.drawing.specs.Fits.{FitAll};
+ghost use Rattle.drawing.specs.Naming.{NamedByForms};
 ghost use Rattle.drawing.specs.Pictures.{blank, drawn-by};
 ghost use Rattle.drawing.specs.Reading.{SheetRead, OnlyAnswer};
 use crate::fault::SheetFault;
@@ -57,6 +58,7 @@ pub fn read_sheet<'a, F: Family>(
 ) -> Result<(), SheetFault>
     ensures read { λ r. ⌜ SheetRead (F·Family .assigns (now (family .entry))) (now (sheet .entry)) r (sketch (now (draft .exit))) ⌝ }
     ensures only { λ r. ⌜ OnlyAnswer (F·Family .assigns (now (family .entry))) (now (sheet .entry)) (answered r (sketch (now (draft .exit)))) ⌝ }
+    ensures names { λ r. ⌜ NamedByForms (now (sheet .entry)) r (sketch (now (draft .exit))) ⌝ }
 {
     draft.clear();
     let words = room.read(sheet)?;

@@ -15,6 +15,9 @@ use std::alloc::Global;
 // The most bytes of a sheet.
 pub const MAX_SHEET: usize = 65_536;
 
+// How many cells may stand in one another, the outermost counted.
+pub const MAX_DEPTH: usize = 8;
+
 impl<'a> Room<'a> {
     // Asks for the memory. Only this call can meet want of it.
     pub fn new(heap: Global) -> Result<Room<'a>, AllocError>

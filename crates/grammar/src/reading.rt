@@ -13,15 +13,13 @@ ghost use Rattle.grammar.specs.Readings.{rest, Took, NextIs, SecondIs, NotHere
 ghost use Rattle.std.specs.Of.Vec.{vec-items};
 ghost use Rattle.grammar.specs.Views.{opened, view, views};
 use crate::fault::GrammarFault;
+use crate::read::MAX_DEPTH;
 use crate::reader::Reader;
 use crate::scan::cell_word_len;
 use crate::scan::delay_len;
 use crate::scan::name_len;
 use crate::word::Opening;
 use crate::word::Word;
-
-// How many cells may stand in one another, the outermost counted.
-const MAX_DEPTH: usize = 8;
 
 impl<'a> Reader<'a> {
     // Whether this is the next byte.
