@@ -1,0 +1,5 @@
+pub mod Plain
+pub mod Asked
+pub mod Refusals
+pub mod Answers
+pub mod Runs
