@@ -1,2 +1,5 @@
 pub mod Texts
 pub mod Answers
+pub mod Plans
+pub mod Planned
+pub mod Told

@@ -1,25 +1,26 @@
--- The answers as text. Assumes nothing.
-use mathlib.Core.List.{List, [], _∷_, _++_}
-use Prim.Native.Nat.{ℕ, suc}
+-- The answers as text; 32 is a space, 41 a closing bracket, 10 the line feed. Assumes nothing.
+use mathlib.Core.Bool.{Bool, cond}
+use mathlib.Core.List.{List, [], _∷_, _++_, map}
+use Prim.Native.Nat.{ℕ, _+_}
 use lib.Chars.{codes}
 use Rattle.std.specs.Written.{decimal}
-use Rattle.std.specs.declared.option.Option.{Option}
-use Rattle.std.specs.declared.option.Option.the-variants.{Some, None}
+use Rattle.search.specs.Search.{Vector}
 
--- (refused NUMBER PLACE), on a line of its own; 10 is the line feed
+-- (refused NUMBER PLACE), on a line of its own
 abbrev pub refused-text : ℕ → ℕ → List ℕ
 refused-text number place = codes "(refused " ++ (decimal number ++ (32 ∷ (decimal place ++ (41 ∷ (10 ∷ [])))))
 
--- what a network has, in plain words, on a line of its own
-abbrev pub drawn-text : ℕ → ℕ → ℕ → List ℕ
-drawn-text inputs cells named = decimal inputs ++ (codes " inputs, " ++ (decimal cells ++ (codes " cells, " ++ (decimal named ++ (codes " named lines" ++ (10 ∷ []))))))
+-- a vector by its digits, input 0 first: 48 is the digit 0, and 49 the digit 1
+abbrev pub digit-of : Bool → ℕ
+digit-of value = cond value 49 48
 
--- how many lines have names
-abbrev pub named : List (Option (List ℕ)) → ℕ
-named [] = 0
-named (None ∷ names) = named names
-named (Some name ∷ names) = suc (named names)
+abbrev pub vector-text : Vector → List ℕ
+vector-text vector = map digit-of vector
 
--- room for an answer: no number has more than 20 digits
-abbrev pub max-answer : ℕ
-max-answer = 128
+-- (worst NAME TICKS VECTOR), on a line of its own
+abbrev pub worst-text : List ℕ → ℕ → Vector → List ℕ
+worst-text name ticks vector = codes "(worst " ++ (name ++ (32 ∷ (decimal ticks ++ (32 ∷ (vector-text vector ++ (41 ∷ (10 ∷ [])))))))
+
+-- room for one printed form: 8 bytes of a name, 20 digits, 24 inputs, and what stands round them
+abbrev pub max-form : ℕ
+max-form = 64

@@ -1,5 +1,7 @@
 // Answers as text.
 mod answering;
-mod counting;
 pub mod desk;
+mod plan;
+mod planning;
+mod printing;
 mod text;

@@ -1,44 +1,29 @@
-use mathlib.Core.Path.{_≡_, refl, sym, ap, _∙_}
-use mathlib.Core.List.{List, [], _∷_, _++_}
-use Prim.Native.Nat.{ℕ, _-_}
-use native.Mathlib.Omega.{arith}
-use lib.ListN.{length}
-use Rattle.lines.proofs.Lawfuls.{inputs-few}
-use Rattle.network.specs.Drafts.{sketch, sealed}
+use mathlib.Core.Path.{_≡_, sym, ap, subst, _∙_}
+use mathlib.Core.List.{List, [], _++_}
+use Prim.Native.Nat.{ℕ}
 use Rattle.std.specs.Of.Vec.{vec-items}
-use Rattle.drawing.specs.Drawing.{Answer}
-use Rattle.drawing.specs.Faults.{refused-by}
-use Rattle.report.specs.Answers.{answer-text}
-use Rattle.report.specs.Texts.{drawn-text, refused-text}
+use Rattle.std.proofs.shelf.Lists.{nil-from-length}
+use Rattle.network.specs.Drafts.{sketch, sealed}
+use Rattle.report.specs.Answers.{Answered, refused-so, drawn-so, Printed, line-forms}
+use Rattle.report.specs.Texts.{refused-text}
 use Rattle.report.proofs.Sealing.{drawn-seals}
+use Rattle.report.proofs.desk.Desk.answer.Needs.{in-Err, in-Ok}
 use Rattle.report.proofs.desk.Desk.answer.Needs as need
 
-none-in : (xs : List ℕ) → length xs ≡ 0 → xs ≡ []
-none-in [] e = refl
-none-in (x ∷ xs) e = absurd (omega arith)
+pub seal-requires : need.seal-requires
+seal-requires g c κs = drawn-seals _ _ _ (c .in-Ok .ensures tt .read)
 
-pub seal-network-requires : need.seal-network-requires
-seal-network-requires g c κs = drawn-seals _ _ _ (c .in-Ok .ensures tt .read)
-
-pub sub-cells : need.sub-cells
-sub-cells g c = omega (arith, c .input-count-inputs .ensures, c .line-count .ensures, inputs-few (vec-items (c .seal-network .result .lines)))
-
-pub returns-in-Err : need.returns-in-Err
-returns-in-Err g c =
-    let blank = none-in (vec-items (c .args .self .text)) (sym (c .args .self .text .ok .0) ∙ c .args .self .blank) in
-    record {
-      answer = refused-by (c .in-Err .fault);
-      reading = c .in-Err .ensures tt .read .0;
-      printed = c .push-refused .ensures .items ∙ (λ i. blank i ++ refused-text (c .number .ensures i) (c .place .ensures i));
-    }
-
-pub returns-in-Ok : need.returns-in-Ok
-returns-in-Ok g c =
-    let blank = none-in (vec-items (c .args .self .text)) (sym (c .args .self .text .ok .0) ∙ c .args .self .blank) in
-    let same : sealed (c .seal-network .result) ≡ sketch (c .read-sheet .last .draft) = c .seal-network .ensures in
-    let texts : drawn-text (c .input-count-inputs .result) (c .line-count .result - c .input-count-inputs .result) (c .named-lines .result) ≡ answer-text (Answer.done (sealed (c .seal-network .result))) = λ i. drawn-text (c .input-count-inputs .ensures i) (c .line-count .ensures i - c .input-count-inputs .ensures i) (c .named-lines .ensures i) in
-    record {
-      answer = Answer.done (sketch (c .read-sheet .last .draft));
-      reading = c .in-Ok .ensures tt .read;
-      printed = c .push-drawn .ensures .items ∙ (λ i. blank i ++ texts i) ∙ ap (λ s. answer-text (Answer.done s)) same;
-    }
+pub returns : need.returns
+returns g c =
+    let blank = nil-from-length (vec-items (c .args .self .text)) (sym (c .args .self .text .ok .0) ∙ c .args .self .blank) in
+    let Here : List ℕ → Type 0 = λ text. Answered (g .F·Family .assigns (c .args .family .now)) (c .args .sheet .now) text in
+    elim (c .match-read-sheet .came) [
+      | in-Err w ↦
+          let text = w .push-refused .ensures .items ∙ (λ i. blank i ++ refused-text (w .number .ensures i) (w .place .ensures i)) in
+          subst Here (sym (ap vec-items (w .text-is) ∙ text)) (refused-so (w .in-Err .ensures tt .read .0))
+      | in-Ok w ↦
+          let forms = w .push-forms .ensures in
+          let text = forms .added ∙ ap (λ l. l ++ forms .text) blank in
+          let printed = subst (λ s. Printed (s .lines) (line-forms s) (forms .text)) (w .seal .ensures) (forms .printed) in
+          subst Here (sym (ap vec-items (w .text-is) ∙ text)) (drawn-so (w .in-Ok .ensures tt .read) printed)
+    ]
