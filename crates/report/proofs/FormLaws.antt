@@ -5,7 +5,8 @@ use Prim.Native.Nat.{ℕ, zero, suc, _+_, _-_, _≤_, _<_}
 use native.Mathlib.Numerals.{add-one}
 use native.Mathlib.Omega.{arith}
 use mathlib.Core.Bool.{Bool, true, false}
-use lib.ListN.{length, getD, take, drop, replicate}
+use lib.ListN.{length, getD, take, drop}
+use Rattle.std.proofs.shelf.Lists.{length-map, length-replicate, take-at}
 use Rattle.std.specs.declared.option.Option.{Option}
 use Rattle.std.specs.declared.option.Option.the-variants.{Some, None}
 use Rattle.lines.specs.declared.line.Line.{Line}
@@ -13,7 +14,7 @@ use Rattle.times.specs.declared.ticks.Ticks.{Ticks}
 use Rattle.lines.specs.Lines.{inputs}
 use Rattle.search.specs.Search.{Vector, Setting, Agrees}
 use Rattle.turns.specs.Asked.{Told}
-use Rattle.turns.specs.Plain.{bits, bytes, written}
+use Rattle.turns.specs.Plain.{bits, byte, bytes, written}
 use Rattle.report.specs.Answers.{LineForm, named-from, untied, IsWorst, Printed, nothing, one-more}
 use Rattle.report.specs.Plans.{Reaches, no-reply, a-reply}
 use Rattle.report.specs.Told.{told-form, told-forms}
@@ -60,16 +61,10 @@ bits-bytes [] = refl
 bits-bytes (true ∷ w) = ap (λ v. true ∷ v) (bits-bytes w)
 bits-bytes (false ∷ w) = ap (λ v. false ∷ v) (bits-bytes w)
 
-length-bytes : (w : Vector) → length (bytes w) ≡ length w
-length-bytes [] = refl
-length-bytes (x ∷ w) = ap suc (length-bytes w)
-
-front : (xs ys : List ℕ) → take (length xs) (xs ++ ys) ≡ xs
-front [] ys = refl
-front (x ∷ xs) ys = ap (λ v. x ∷ v) (front xs ys)
-
 read-back : (w : Vector) (buffer : List ℕ) (n : ℕ) → length w ≡ n → bits (take n (written w buffer)) ≡ w
-read-back w buffer n e = ap (λ k. bits (take k (written w buffer))) (sym e ∙ sym (length-bytes w)) ∙ ap bits (front (bytes w) (drop (length w) buffer)) ∙ bits-bytes w
+read-back w buffer n e =
+    let long = length-map w byte ∙ e in
+    ap bits (take-at (bytes w) (drop (length w) buffer) n long) ∙ bits-bytes w
 
 agrees-long : (w : Vector) (s : Setting) → Agrees w s → length w ≡ length s
 agrees-long [] [] a = refl
@@ -78,10 +73,6 @@ agrees-long (x ∷ w) [] a = absurd a
 agrees-long (x ∷ w) (None ∷ s) a = ap suc (agrees-long w s a)
 agrees-long (x ∷ w) (Some y ∷ s) a = ap suc (agrees-long w s (a .1))
 
-untied-long : (n : ℕ) → length (replicate {A = Option Bool} n None) ≡ n
-untied-long zero = refl
-untied-long (suc n) = ap suc (untied-long n)
-
 -- the replies that show the worst vectors of some forms are printed as those forms
 pub reaches-printed : (lines : List Line) (forms : List LineForm) (replies : List (Told Ticks)) → Reaches lines forms replies → Printed lines forms (told-forms (inputs lines) (map (λ form. form .name) forms) replies)
 reaches-printed lines [] [] no-reply = nothing
@@ -89,5 +80,5 @@ reaches-printed lines [] (r ∷ replies) h = elim h [ ]
 reaches-printed lines (f ∷ forms) [] h = elim h [ ]
 reaches-printed lines (f ∷ forms) (r ∷ replies) (a-reply form greatest w vector work worst more) =
     let rest = told-forms (inputs lines) (map (λ form. form .name) forms) replies in
-    let back = read-back w vector (inputs lines) (agrees-long w (untied lines) (worst .agrees) ∙ untied-long (inputs lines)) in
+    let back = read-back w vector (inputs lines) (agrees-long w (untied lines) (worst .agrees) ∙ length-replicate (inputs lines) None) in
     subst (λ v. Printed lines (f ∷ forms) (worst-text (f .name) (greatest .time .ticks) v ++ rest)) (sym back) (one-more f w (greatest .time) worst (reaches-printed lines forms replies more))

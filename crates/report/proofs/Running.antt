@@ -4,7 +4,8 @@ use mathlib.Core.List.{List, [], _∷_, _++_, map, append-assoc, append-nil}
 use mathlib.Core.Path.{_≡_, refl, sym, ap, subst, _∙_}
 use Prim.Native.Nat.{ℕ, zero, suc, _+_, _≤_, _<_}
 use native.Mathlib.Omega.{arith}
-use lib.ListN.{length, replicate}
+use lib.ListN.{length}
+use Rattle.std.proofs.shelf.Lists.{length-replicate}
 use Rattle.std.specs.declared.option.Option.{Option}
 use Rattle.std.specs.declared.option.Option.the-variants.{Some, None}
 use Rattle.std.specs.declared.result.Result.{Result}
@@ -43,10 +44,6 @@ pub data Present (count : ℕ) : List LineForm → Type 0 where
   none-there : Present count []
   one-there : {forms : List LineForm} (form : LineForm) → form .number < count → Present count forms → Present count (form ∷ forms)
 
-length-untied : (n : ℕ) → length (replicate {A = Option Bool} n None) ≡ n
-length-untied zero = refl
-length-untied (suc n) = ap suc (length-untied n)
-
 -- how many lines and inputs there can be
 pub record Bounded (lines : List Line) : Type 0 where
   pub few-lines : length lines ≤ max-lines
@@ -63,7 +60,7 @@ one-reply lines forms replies form vector vector′ work work′ (Err fault) b t
   where
     wrong : (n : ℕ) → Worst-wrong (opened lines) (form .number) (length vector) (length work) n → ⊥
     wrong n (Worst-wrong.no-line absent) = omega arith
-    wrong n (Worst-wrong.short-vector short) = omega (arith, length-untied (inputs lines), b .few-inputs)
+    wrong n (Worst-wrong.short-vector short) = omega (arith, length-replicate {A = Option Bool} (inputs lines) None, b .few-inputs)
     wrong n (Worst-wrong.few-work short) = omega (arith, b .few-lines)
 
 pub run-reaches : (lines : List Line) (forms : List LineForm) (calls : List (Asked Ticks)) (replies : List (Told Ticks)) (past : Past Ticks)
