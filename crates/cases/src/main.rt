@@ -1,4 +1,6 @@
 // Stored cases run through the public calls: sheets and circuits with their answers, and histories of calls.
+#![tactic(auto)]
+
 mod bench;
 mod catalogue;
 mod comparing;

@@ -1,4 +1,6 @@
 // A sheet drawn into a draft: from its bytes to lines and names.
+#![tactic(auto)]
+
 mod cells;
 mod drawing;
 pub mod fault;

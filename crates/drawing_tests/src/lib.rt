@@ -1,4 +1,5 @@
 // Examples of sheets read into a draft, with the board library: maj and mux, of three pins each.
+#![tactic(auto)]
 
 #[cfg(test)]
 mod tests {

@@ -1,3 +1,5 @@
 // Families of cells: what a cell word means.
+#![tactic(auto)]
+
 pub mod family;
 pub mod pair;

@@ -1,4 +1,6 @@
 // Worked examples, as one list with one proof.
+#![tactic(auto)]
+
 ghost use Rattle.figures.specs.Figures.{FiguresHold};
 
 // Every figure of the list is as the definitions say.

@@ -1,4 +1,6 @@
 // The text of a sheet: its words, a reader over it, and where it stops being a sheet.
+#![tactic(auto)]
+
 pub mod fault;
 pub mod read;
 mod reader;

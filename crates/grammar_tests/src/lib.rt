@@ -1,4 +1,6 @@
 // Examples of texts, at both sides of each edge of the grammar.
+#![tactic(auto)]
+
 #[cfg(test)]
 mod tests {
     use grammar::fault::GrammarFault;

@@ -1,4 +1,6 @@
 // The program: one sheet from standard input, its answer to standard output.
+#![tactic(auto)]
+
 use anyhow::anyhow;
 use families::pair::Pair;
 use gates::plain::Plain;

@@ -1,4 +1,6 @@
 // Libraries: families that are made of entries.
+#![tactic(auto)]
+
 pub mod board;
 pub mod checking;
 pub mod entry;

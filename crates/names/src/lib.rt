@@ -1,4 +1,6 @@
 // Names and cell words: which bytes are lawful, and when two are the same.
+#![tactic(auto)]
+
 ghost use Rattle.std.specs.Prelude.{◌≡◌, ℕ, ◌+◌, ◌-◌, ◌<◌, ◌≤◌, Bool, length};
 ghost use Rattle.names.specs.Names.{letter, digit, name_byte, star, every, letter_first, starred, lawful_name, lawful_word, same_word};
 

@@ -1,4 +1,6 @@
 // Drafts, which grow line by line, and the networks that they are sealed as.
+#![tactic(auto)]
+
 pub mod adding;
 pub mod checks;
 pub mod draft;

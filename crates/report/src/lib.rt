@@ -1,4 +1,6 @@
 // Answers as text.
+#![tactic(auto)]
+
 mod answering;
 pub mod desk;
 mod plan;

@@ -1,4 +1,6 @@
 // The searches of a network over the settings of its inputs.
+#![tactic(auto)]
+
 pub mod line;
 pub mod seek;
 pub mod stands;

@@ -1,4 +1,6 @@
 // Final values and settle times of a network's lines under a vector, and their latest times under a setting.
+#![tactic(auto)]
+
 pub mod again;
 pub mod input;
 pub mod latest;

@@ -1,4 +1,6 @@
 // A study of a network: it settles, seeks and tells the worst, while delays and ties change.
+#![tactic(auto)]
+
 pub mod ceilings;
 pub mod checks;
 pub mod delays;

@@ -1,4 +1,5 @@
 // A run on a study whose later answers hang on its earlier calls.
+#![tactic(auto)]
 
 #[cfg(test)]
 mod tests {

@@ -1,4 +1,6 @@
 // Examples of times, gates and deciding, at their edges.
+#![tactic(auto)]
+
 #[cfg(test)]
 mod tests {
     use cells::decide::decided_at;
