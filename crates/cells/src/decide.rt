@@ -12,7 +12,7 @@ use times::time::Time;
 // The pins settled at or before a time.
 fn settled_at<T: Time>(times: PinTimes<T>, count: usize, at: T) -> [bool; 4]
     requires { count ≤ 4 }
-    ensures { (pin : ℕ) → pin < count → slice_index_or result pin false ≡ settled_by kind (pin_time times) at pin }
+    ensures { (pin : ℕ) → pin < count → slice_index_or result pin false ≡ settled_by T.kind (pin_time times) at pin }
 {
     let mut settled = [false; 4];
     for pin in 0..count {
@@ -31,8 +31,8 @@ fn only_if<T: Copy>(test: bool, time: T) -> Option<T>
 // The time at which the pins decide the output of the table in `row`; the start where there is no pin.
 pub fn decided_at<T: Time>(table: usize, count: usize, row: usize, times: PinTimes<T>) -> T
     requires { (count ≤ 4) × (row < 2 ^ count) }
-    ensures value { result ≡ decide kind table count row (pin_time times) }
-    ensures decided { 0 < count → Decided kind table count row (pin_time times) result }
+    ensures value { result ≡ decide T.kind table count row (pin_time times) }
+    ensures decided { 0 < count → Decided T.kind table count row (pin_time times) result }
 {
     let mut best = None;
     for pin in 0..count {
@@ -48,10 +48,10 @@ pub fn decided_at<T: Time>(table: usize, count: usize, row: usize, times: PinTim
 
 // What is proved of deciding, for every kind of time; the number means nothing.
 pub fn deciding<T: Time>() -> u8
-    ensures decides { DecideDecides kind }
-    ensures once { DecidedOnce kind }
-    ensures earlier { EarlierDecidesNoLater kind }
-    ensures one_output { OneOutputDecidesFirst kind }
+    ensures decides { DecideDecides T.kind }
+    ensures once { DecidedOnce T.kind }
+    ensures earlier { EarlierDecidesNoLater T.kind }
+    ensures one_output { OneOutputDecidesFirst T.kind }
 {
     0
 }

@@ -6,7 +6,7 @@ use times::time::Time;
 
 // The sooner of two times, each of which may be missing.
 pub fn sooner_of<T: Time>(a: Option<T>, b: Option<T>) -> Option<T>
-    ensures { result ≡ first kind.at_or_before a b }
+    ensures { result ≡ first T.kind.at_or_before a b }
 {
     match (a, b) {
         (None, b) => b,
@@ -17,7 +17,7 @@ pub fn sooner_of<T: Time>(a: Option<T>, b: Option<T>) -> Option<T>
 
 // The later of two times, each of which may be missing.
 pub fn later_of<T: Time>(a: Option<T>, b: Option<T>) -> Option<T>
-    ensures { result ≡ first (at_or_after kind) a b }
+    ensures { result ≡ first (at_or_after T.kind) a b }
 {
     match (a, b) {
         (None, b) => b,

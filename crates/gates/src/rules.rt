@@ -7,7 +7,7 @@ use times::time::Time;
 pub fn plain_gates<T: Time>() -> u8
     ensures outputs { PlainOutputs }
     ensures assigns { PlainAssigns }
-    ensures settle { PlainGatesSettle kind }
+    ensures settle { PlainGatesSettle T.kind }
 {
     0
 }

@@ -1,7 +1,7 @@
 // What a draft is.
 ghost use Rattle.std.specs.Prelude.{◌≡◌, ◌≤◌, vec_len, vec_capacity};
 ghost use Rattle.lines.specs.Limits.{max_inputs, max_lines};
-ghost use Rattle.lines.specs.Lines.{Lawful, inputs as inputs-among};
+ghost use Rattle.lines.specs.Lines.{Lawful, inputs as inputs_among};
 
 use lines::line::Line;
 use names::name::Name;
@@ -15,6 +15,6 @@ pub struct Draft {
     pub(crate) inputs: usize,
     ghost room: { (max_lines ≤ vec_capacity lines) × (max_lines ≤ vec_capacity names) },
     ghost sizes: { (vec_len names ≡ vec_len lines) × (vec_len lines ≤ max_lines) × (inputs ≤ max_inputs) },
-    ghost counted: { inputs ≡ inputs-among lines.items },
+    ghost counted: { inputs ≡ inputs_among lines.items },
     ghost lawful: { ∥ Lawful lines.items ∥₁ },
 }

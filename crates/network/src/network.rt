@@ -1,7 +1,7 @@
 // What a network is.
 ghost use Rattle.std.specs.Prelude.{◌≡◌, ◌≤◌, vec_len};
 ghost use Rattle.lines.specs.Limits.{max_inputs, max_lines};
-ghost use Rattle.lines.specs.Lines.{Lawful, inputs as inputs-among};
+ghost use Rattle.lines.specs.Lines.{Lawful, inputs as inputs_among};
 
 use lines::line::Line;
 use names::name::Name;
@@ -13,6 +13,6 @@ pub struct Network {
     pub names: Vec<Option<Name>>,
     pub inputs: usize,
     ghost sizes: { (vec_len names ≡ vec_len lines) × (vec_len lines ≤ max_lines) × (inputs ≤ max_inputs) × (1 ≤ inputs) },
-    ghost counted: { inputs ≡ inputs-among lines.items },
+    ghost counted: { inputs ≡ inputs_among lines.items },
     ghost lawful: { ∥ Lawful lines.items ∥₁ },
 }

@@ -16,7 +16,7 @@ fn perform_settle<T: Time>(
     mut values: Vec<bool>,
     mut times: Vec<T>,
 ) -> Reply<T>
-    ensures { Promises kind study.now study.now (settle vector.items values.items times.items) (told result) }
+    ensures { Promises T.kind study.now study.now (settle vector.items values.items times.items) (told result) }
 {
     let outcome = study.settle(&vector, &mut values, &mut times);
     Reply::Settled {
@@ -35,7 +35,7 @@ fn perform_seek<T: Time>(
     mut vector: Vec<u8>,
     mut work: Vec<Latest<T>>,
 ) -> Reply<T>
-    ensures promise { Promises kind study.old study.new (seek line value bound vector.items work.items) (told result) }
+    ensures promise { Promises T.kind study.old study.new (seek line value bound vector.items work.items) (told result) }
     ensures refused { accepted (told result) ≡ false → Unchanged study.old study.new }
 {
     let outcome = study.seek(line, value, bound, &mut vector, &mut work);
@@ -53,7 +53,7 @@ fn perform_worst<T: Time>(
     mut vector: Vec<u8>,
     mut work: Vec<Latest<T>>,
 ) -> Reply<T>
-    ensures { Promises kind study.now study.now (worst line vector.items work.items) (told result) }
+    ensures { Promises T.kind study.now study.now (worst line vector.items work.items) (told result) }
 {
     let outcome = study.worst(line, &mut vector, &mut work);
     Reply::Reached {
@@ -65,7 +65,7 @@ fn perform_worst<T: Time>(
 
 // Makes one call; its buffers come back in the reply.
 pub fn perform<T: Time>(study: &mut Study<T>, call: Call<T>) -> Reply<T>
-    ensures promise { Promises kind study.old study.new (asked call) (told result) }
+    ensures promise { Promises T.kind study.old study.new (asked call) (told result) }
     ensures refused { accepted (told result) ≡ false → Unchanged study.old study.new }
 {
     match call {

@@ -16,9 +16,9 @@ use turns::fault::StudyFault;
 
 // Makes the calls one after another on a study that was just opened.
 fn replies_of<T: Time>(study: &mut Study<T>, calls: Vec<Call<T>>, room: Room<T>) -> Vec<Reply<T>>
-    requires opened { Stands kind (plain_of study.old) [] study.old }
+    requires opened { Stands T.kind (plain_of study.old) [] study.old }
     requires enough { vec_len calls ≤ vec_capacity room.replies }
-    ensures { Run kind (plain_of study.old) [] (map asked calls.items) (map told result.items) }
+    ensures { Run T.kind (plain_of study.old) [] (map asked calls.items) (map told result.items) }
 {
     let Room { replies } = room;
     let mut replies = replies;
@@ -35,7 +35,7 @@ pub fn replay<T: Time>(
     calls: Vec<Call<T>>,
     room: Room<T>,
 ) -> Result<Vec<Reply<T>>, StudyFault>
-    ensures { Replayed kind network.lines.items (vec_len ceilings) (vec_capacity room.replies) calls.items result }
+    ensures { Replayed T.kind network.lines.items (vec_len ceilings) (vec_capacity room.replies) calls.items result }
 {
     check_open(&network, &ceilings)?;
     if room.replies.capacity() < calls.len() {

@@ -1,6 +1,6 @@
 -- The branch and bound comes to the first vector that reaches the greatest settle time. Assumes nothing.
 use Rattle.std.proofs.Common.{◌≡◌, ℕ, zero, suc, Bool, true, false, ◌⊎◌, [], ◌∷◌, length, Some, None, Option, sym, refl, ap, ◌∙◌, subst, inl, inr, ⊎_elim, arith}
-use Rattle.std.proofs.lemmas.Bool.{both_ways, cases_bool, cond_both, not-true, not-false}
+use Rattle.std.proofs.lemmas.Bool.{both_ways, cases_Bool, cond_both, not-true, not-false}
 use Rattle.search.specs.Search.{Vector, Setting, Agrees, Precedes, undecided, decide, vector}
 use Rattle.search.specs.Worst.{Order, Worst, Reached, best_of, best_time, promising, Bounding, worst_from, worst_vector, WorstStands}
 use Rattle.search.proofs.Settings.{agrees_length, decide_length, whole_vector, vector_agrees, agrees_one, decide_undecided, agrees_decide, agrees_either, zero_precedes_one}
@@ -106,7 +106,7 @@ module _ {T : Type 0} (at_or_before : T → T → Bool) (settles : Vector → T)
             up = ⊎_elim (λ y. y) (λ y. absurd (both_ways (at_or_before t r.time) strict y)) (order.total r.time t)
 
             down : at_or_before t (settles v) ≡ false
-            down = ⊎_elim (λ y. absurd (both_ways (at_or_before t r.time) strict (order.transitive t (settles v) r.time y (h.none_later v x)))) (λ y. y) (cases_bool (at_or_before t (settles v)))
+            down = ⊎_elim (λ y. absurd (both_ways (at_or_before t r.time) strict (order.transitive t (settles v) r.time y (h.none_later v x)))) (λ y. y) (cases_Bool (at_or_before t (settles v)))
 
     goes_on : (k : ℕ) (Seen : Vector → Type 0) (s : Setting) → length s ≡ inputs → undecided s ≡ k → After Seen s → (b : Option (Reached T)) → Best Seen b → Best (More Seen s) (worst_from at_or_before latest k s b)
     unfolding worst_from

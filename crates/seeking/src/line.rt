@@ -29,7 +29,7 @@ fn latest_of<T: Time>(
     requires inputs { inputs lines.now ≤ length setting.now }
     requires room { length lines.now ≤ length work.old }
     requires present { line < length lines.now }
-    ensures { result ≡ line_latest kind lines.now ties.now line setting.now }
+    ensures { result ≡ line_latest T.kind lines.now ties.now line setting.now }
 {
     latest_times(lines, ties, setting, work);
     read(work, line)
@@ -49,7 +49,7 @@ pub fn latest_at<T: Time>(
     requires inputs { inputs lines.now ≤ length setting.now }
     requires room { length lines.now ≤ length work.old }
     requires present { line < length lines.now }
-    ensures { result ≡ latest_time kind lines.now ties.now line value setting.now }
+    ensures { result ≡ latest_time T.kind lines.now ties.now line value setting.now }
 {
     let latest = latest_of(lines, ties, line, setting, work);
     latest.at(value)
@@ -68,7 +68,7 @@ pub fn latest_of_both<T: Time>(
     requires inputs { inputs lines.now ≤ length setting.now }
     requires room { length lines.now ≤ length work.old }
     requires present { line < length lines.now }
-    ensures { result ≡ latest_of_both kind lines.now ties.now line setting.now }
+    ensures { result ≡ latest_of_both T.kind lines.now ties.now line setting.now }
 {
     let latest = latest_of(lines, ties, line, setting, work);
     later_of(latest.zero, latest.one)

@@ -15,7 +15,7 @@ use times::time::Time;
 
 // Whether a latest time is there and at or after a bound.
 fn reaches<T: Time>(late: Option<T>, bound: T) -> bool
-    ensures { result ≡ not (cut kind bound late) }
+    ensures { result ≡ not (cut T.kind bound late) }
 {
     match late {
         None => false,
@@ -46,7 +46,7 @@ pub fn look_for<T: Time>(
     requires start { setting.old ≡ ties.now }
     requires room { length lines.now ≤ length work.old }
     requires present { line < length lines.now }
-    ensures { LookedFor kind lines.now ties.now line (seek_search kind lines.now ties.now line value bound) setting.new result.found result.looks }
+    ensures { LookedFor T.kind lines.now ties.now line (seek_search T.kind lines.now ties.now line value bound) setting.new result.found result.looks }
 {
     let mut looks: u32 = 0;
     'looking: loop {

@@ -6,8 +6,8 @@ use times::time::Time;
 // The search of a network shows the first late vector, or nothing exactly where there is none; the search for the worst
 // shows the greatest settle time and the first vector that reaches it.
 pub fn searching<T: Time>() -> u8
-    ensures seek { SeekStands kind }
-    ensures worst { WorstStands kind }
+    ensures seek { SeekStands T.kind }
+    ensures worst { WorstStands T.kind }
 {
     0
 }

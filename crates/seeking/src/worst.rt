@@ -13,7 +13,7 @@ use times::time::Time;
 
 // Whether a latest time is after the worst so far.
 fn is_promising<T: Time>(late: Option<T>, best: Option<T>) -> bool
-    ensures { result ≡ promising kind.at_or_before late best }
+    ensures { result ≡ promising T.kind.at_or_before late best }
 {
     match (late, best) {
         (None, _) => false,
@@ -49,7 +49,7 @@ pub fn worst_of<T: Time>(
     requires room { length lines.now ≤ length work.old }
     requires present { line < length lines.now }
     ensures restored { setting.new ≡ setting.old }
-    ensures worst { best_of result at.new ≡ worst_from kind.at_or_before (latest_of_both kind lines.now ties.now line) (undecided setting.old) setting.old (best_of best at.old) }
+    ensures worst { best_of result at.new ≡ worst_from T.kind.at_or_before (latest_of_both T.kind lines.now ties.now line) (undecided setting.old) setting.old (best_of best at.old) }
 {
     let late = latest_of_both(lines, ties, line, setting, work);
     if !is_promising(late, best) {

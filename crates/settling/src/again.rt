@@ -68,8 +68,8 @@ pub fn latest_again<T: Time>(
     requires ties { inputs lines.now ≤ length ties.now }
     requires setting { inputs lines.now ≤ length setting.now }
     requires room { length lines.now ≤ length work.old }
-    requires worked { Worked kind (tied_by ties.now) lines.now upto work.old }
-    ensures { Under kind (tied_by ties.now) lines.now upto (in_setting setting.now) work.new }
+    requires worked { Worked T.kind (tied_by ties.now) lines.now upto work.old }
+    ensures { Under T.kind (tied_by ties.now) lines.now upto (in_setting setting.now) work.new }
 {
     let mut changed = [false; MAX_LINES];
     for number in 0..upto {

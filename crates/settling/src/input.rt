@@ -8,7 +8,7 @@ use times::time::Time;
 
 // The time at which an input settles to a value, tied or not.
 pub fn input_time<T: Time>(line: Line, value: bool, tied: bool) -> T
-    ensures { result ≡ input_time kind tied line value }
+    ensures { result ≡ input_time T.kind tied line value }
 {
     let _ = tied;
     T::start().after(delay_of(line, value))

@@ -35,7 +35,7 @@ impl<T: Copy> Latest<T> {
 
 // The latest time of an input at a value, where the setting may have decided it.
 fn input_latest<T: Time>(line: Line, tied: bool, decided: Option<bool>, value: bool) -> Option<T>
-    ensures { result ≡ latest_input kind tied line decided value }
+    ensures { result ≡ latest_input T.kind tied line decided value }
 {
     let time = input_time(line, value, tied);
     match decided {
@@ -56,7 +56,7 @@ struct RowTimes<T> {
 fn row_times<T: Time>(cell: Cell, row: usize, work: &[Latest<T>]) -> RowTimes<T>
     requires { (cell.count ≤ 4) × (((pin : ℕ) → pin < cell.count → feeder cell pin < length work.now)) }
     ensures every { result.every ≡ every_below cell.count (λ pin. is_some (latest_pin (latest_line work.now) cell row pin)) }
-    ensures times { (pin : ℕ) → pin < cell.count → pin_time result.at pin ≡ unwrap_or (latest_pin (latest_line work.now) cell row pin) kind.start }
+    ensures times { (pin : ℕ) → pin < cell.count → pin_time result.at pin ≡ unwrap_or (latest_pin (latest_line work.now) cell row pin) T.kind.start }
 {
     let start = T::start();
     let mut every = true;
@@ -78,7 +78,7 @@ fn row_latest<T: Time>(
     work: &[Latest<T>],
 ) -> Option<T>
     requires { (LawfulCell (length work.now) cell) × (row < 2 ^ cell.count) }
-    ensures { result ≡ latest_by_row kind (latest_line work.now) line cell value row }
+    ensures { result ≡ latest_by_row T.kind (latest_line work.now) line cell value row }
 {
     let table = cell.table as usize;
     if bit_of(table, row) != value {
@@ -95,7 +95,7 @@ fn row_latest<T: Time>(
 // The latest time of a cell's line at a value: the greatest that a row gives.
 fn output_latest<T: Time>(line: Line, cell: Cell, value: bool, work: &[Latest<T>]) -> Option<T>
     requires { LawfulCell (length work.now) cell }
-    ensures { result ≡ latest_output kind (latest_line work.now) line cell value }
+    ensures { result ≡ latest_output T.kind (latest_line work.now) line cell value }
 {
     let rows: usize = 1 << cell.count;
     let mut best = None;
@@ -114,7 +114,7 @@ pub(crate) fn line_latest<T: Time>(
     work: &[Latest<T>],
 ) -> Latest<T>
     requires { (((count : ℕ) × LawfulDriver count number line.driver × (count ≤ length ties.now) × (count ≤ length setting.now))) × (number ≤ length work.now) }
-    ensures { result ≡ latest_driver kind (tied_by ties.now) (in_setting setting.now) number (latest_line work.now) line line.driver }
+    ensures { result ≡ latest_driver T.kind (tied_by ties.now) (in_setting setting.now) number (latest_line work.now) line line.driver }
 {
     match line.driver {
         Driver::Input => {
@@ -145,8 +145,8 @@ pub fn latest_times<T: Time>(
     requires ties { inputs lines.now ≤ length ties.now }
     requires setting { inputs lines.now ≤ length setting.now }
     requires room { length lines.now ≤ length work.old }
-    ensures work { work.new ≡ latest kind (tied_by ties.now) lines.now (in_setting setting.now) ++ drop (length lines.now) work.old }
-    ensures rules { LatestTimes kind (tied_by ties.now) lines.now (in_setting setting.now) (latest_line work.new) }
+    ensures work { work.new ≡ latest T.kind (tied_by ties.now) lines.now (in_setting setting.now) ++ drop (length lines.now) work.old }
+    ensures rules { LatestTimes T.kind (tied_by ties.now) lines.now (in_setting setting.now) (latest_line work.new) }
 {
     for number in 0..lines.len() {
         let times = line_latest(lines[number], number, ties, setting, work);

@@ -37,7 +37,7 @@ fn row_of(cell: Cell, values: &[bool]) -> usize
 // The settle times of a cell's pins.
 fn pin_times<T: Time>(cell: Cell, times: &[T]) -> PinTimes<T>
     requires { (cell.count ≤ 4) × (((pin : ℕ) → pin < cell.count → feeder cell pin < length times.now)) }
-    ensures { (pin : ℕ) → pin < cell.count → pin_time result pin ≡ listed kind times.now (feeder cell pin) }
+    ensures { (pin : ℕ) → pin < cell.count → pin_time result pin ≡ listed T.kind times.now (feeder cell pin) }
 {
     let mut at = PinTimes::all(T::start());
     for pin in 0..cell.count {
@@ -56,7 +56,7 @@ fn settle_line<T: Time>(
     times: &[T],
 ) -> Settled<T>
     requires { (((count : ℕ) × LawfulDriver count number line.driver × (count ≤ length ties.now) × (count ≤ length vector.now))) × ((number ≤ length values.now) × (number ≤ length times.now)) }
-    ensures { result ≡ settle_driver kind (tied_by ties.now) (in_vector vector.now) number (as_settled kind values.now times.now) line line.driver }
+    ensures { result ≡ settle_driver T.kind (tied_by ties.now) (in_vector vector.now) number (as_settled T.kind values.now times.now) line line.driver }
 {
     match line.driver {
         Driver::Input => {
@@ -95,9 +95,9 @@ pub fn settle<T: Time>(
     requires vector { inputs lines.now ≤ length vector.now }
     requires values { length lines.now ≤ length values.old }
     requires times { length lines.now ≤ length times.old }
-    ensures values { values.new ≡ map settled_value (settled kind (tied_by ties.now) lines.now (in_vector vector.now)) ++ drop (length lines.now) values.old }
-    ensures times { times.new ≡ map settled_time (settled kind (tied_by ties.now) lines.now (in_vector vector.now)) ++ drop (length lines.now) times.old }
-    ensures rules { Settles kind (tied_by ties.now) lines.now (in_vector vector.now) (as_settled kind values.new times.new) }
+    ensures values { values.new ≡ map settled_value (settled T.kind (tied_by ties.now) lines.now (in_vector vector.now)) ++ drop (length lines.now) values.old }
+    ensures times { times.new ≡ map settled_time (settled T.kind (tied_by ties.now) lines.now (in_vector vector.now)) ++ drop (length lines.now) times.old }
+    ensures rules { Settles T.kind (tied_by ties.now) lines.now (in_vector vector.now) (as_settled T.kind values.new times.new) }
 {
     for number in 0..lines.len() {
         let settled = settle_line(lines[number], number, ties, vector, values, times);

@@ -6,8 +6,8 @@ use times::time::Time;
 
 // Lines settle in one way only, and shorter delays settle them no later, to the same values.
 pub fn settling<T: Time>() -> u8
-    ensures once { RulesGiveSettled kind }
-    ensures shorter { ShorterSettlesNoLater kind }
+    ensures once { RulesGiveSettled T.kind }
+    ensures shorter { ShorterSettlesNoLater T.kind }
 {
     0
 }
@@ -15,11 +15,11 @@ pub fn settling<T: Time>() -> u8
 // Latest times follow from their rules, bound the settle times, and are exact where everything is decided; a cut
 // setting hides no late vector, and a whole setting that is not cut is one.
 pub fn bounding<T: Time>() -> u8
-    ensures once { RulesGiveLatest kind }
-    ensures bounds { LatestBounds kind }
-    ensures exact { LatestExact kind }
-    ensures cuts { CutHidesNone kind }
-    ensures found { UncutIsFound kind }
+    ensures once { RulesGiveLatest T.kind }
+    ensures bounds { LatestBounds T.kind }
+    ensures exact { LatestExact T.kind }
+    ensures cuts { CutHidesNone T.kind }
+    ensures found { UncutIsFound T.kind }
 {
     0
 }

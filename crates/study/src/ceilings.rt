@@ -6,7 +6,7 @@ use times::time::Time;
 
 // Whether a ceiling is there and at or before a bound.
 pub(crate) fn is_covered<T: Time>(ceiling: Option<T>, bound: T) -> bool
-    ensures { result ≡ covers kind bound ceiling }
+    ensures { result ≡ covers T.kind bound ceiling }
 {
     match ceiling {
         None => false,

@@ -10,7 +10,7 @@ use turns::fault::StudyFault;
 impl<T: Time> Study<T> {
     // Gives a line a delay no greater than its present one. What was found of every line stays.
     pub fn shorten(&mut self, line: usize, delay: u32) -> Result<(), StudyFault>
-        ensures promise { Promises kind self.old self.new (shorten line delay) (told_change result) }
+        ensures promise { Promises T.kind self.old self.new (shorten line delay) (told_change result) }
         ensures keeps { Keeps self.old self.new result }
     {
         self.check_shorten(line, delay)?;
@@ -20,7 +20,7 @@ impl<T: Time> Study<T> {
 
     // Gives a line a greater delay. What was found of every line is forgotten.
     pub fn lengthen(&mut self, line: usize, delay: u32) -> Result<(), StudyFault>
-        ensures promise { Promises kind self.old self.new (lengthen line delay) (told_change result) }
+        ensures promise { Promises T.kind self.old self.new (lengthen line delay) (told_change result) }
         ensures keeps { Keeps self.old self.new result }
     {
         self.check_lengthen(line, delay)?;

@@ -29,7 +29,7 @@ impl<T: Time> Study<T> {
         requires { NothingWrong (OpenWrong (vec_len network.lines) (vec_len ceilings)) }
         ensures plain { plain_of result ≡ opened network.lines.items }
         ensures ceilings { Cleared (2 * vec_len network.lines) ceilings.items (ceilings_of result) }
-        ensures stands { Stands kind (opened network.lines.items) [] result }
+        ensures stands { Stands T.kind (opened network.lines.items) [] result }
     {
         let Network {
             lines,

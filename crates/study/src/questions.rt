@@ -23,7 +23,7 @@ impl<T: Time> Study<T> {
         values: &mut [bool],
         times: &mut [T],
     ) -> Result<(), StudyFault>
-        ensures { Promises kind self.now self.now (settle vector.now values.old times.old) (told_settle result values.new times.new) }
+        ensures { Promises T.kind self.now self.now (settle vector.now values.old times.old) (told_settle result values.new times.new) }
     {
         self.check_settle(vector, values.len(), times.len())?;
         let mut given = [false; MAX_INPUTS];
@@ -43,7 +43,7 @@ impl<T: Time> Study<T> {
         vector: &mut [u8],
         work: &mut [Latest<T>],
     ) -> Result<Found<T>, StudyFault>
-        ensures promise { Promises kind self.old self.new (seek line value bound vector.old work.old) (told_seek result vector.new work.new) }
+        ensures promise { Promises T.kind self.old self.new (seek line value bound vector.old work.old) (told_seek result vector.new work.new) }
         ensures keeps { Keeps self.old self.new result }
     {
         self.check_seek(line, value, vector.len(), work.len())?;
@@ -79,7 +79,7 @@ impl<T: Time> Study<T> {
         vector: &mut [u8],
         work: &mut [Latest<T>],
     ) -> Result<Greatest<T>, StudyFault>
-        ensures { Promises kind self.now self.now (worst line vector.old work.old) (told_worst result vector.new work.new) }
+        ensures { Promises T.kind self.now self.now (worst line vector.old work.old) (told_worst result vector.new work.new) }
     {
         self.check_worst(line, vector.len(), work.len())?;
         let ties = &self.ties[..self.inputs];

@@ -1,7 +1,7 @@
 // What a study is.
 ghost use Rattle.std.specs.Prelude.{◌≡◌, ◌*◌, ◌≤◌, length, vec_len};
 ghost use Rattle.lines.specs.Limits.{max_inputs, max_lines};
-ghost use Rattle.lines.specs.Lines.{Lawful, inputs as inputs-among};
+ghost use Rattle.lines.specs.Lines.{Lawful, inputs as inputs_among};
 
 use lines::limits::MAX_INPUTS;
 use lines::line::Line;
@@ -17,7 +17,7 @@ pub struct Study<T: Time> {
     pub(crate) ties: [Option<bool>; MAX_INPUTS],
     pub(crate) ceilings: Vec<Option<T>>,
     ghost lawful: { ∥ Lawful lines.items ∥₁ },
-    ghost counted: { inputs ≡ inputs-among lines.items },
+    ghost counted: { inputs ≡ inputs_among lines.items },
     ghost few: { inputs ≤ max_inputs },
     ghost most: { vec_len lines ≤ max_lines },
     ghost whole: { length ties ≡ max_inputs },

@@ -10,7 +10,7 @@ use turns::fault::StudyFault;
 impl<T: Time> Study<T> {
     // Fixes an untied input at a value. What was found of every line stays.
     pub fn tie(&mut self, line: usize, value: u8) -> Result<(), StudyFault>
-        ensures promise { Promises kind self.old self.new (tie line value) (told_change result) }
+        ensures promise { Promises T.kind self.old self.new (tie line value) (told_change result) }
         ensures keeps { Keeps self.old self.new result }
     {
         self.check_tie(line, value)?;
@@ -20,7 +20,7 @@ impl<T: Time> Study<T> {
 
     // Frees a tied input. What was found of every line is forgotten.
     pub fn untie(&mut self, line: usize) -> Result<(), StudyFault>
-        ensures promise { Promises kind self.old self.new (untie line) (told_change result) }
+        ensures promise { Promises T.kind self.old self.new (untie line) (told_change result) }
         ensures keeps { Keeps self.old self.new result }
     {
         self.check_untie(line)?;

@@ -1,7 +1,7 @@
 // Vectors as bytes.
 ghost use Rattle.std.specs.Prelude.{◌≡◌, ℕ, ◌<◌, ◌≤◌, Bool, true, false, ◌++◌, length, drop, Some, None, ◌≢◌, slice_index, slice_index_or};
 ghost use Rattle.std.specs.Option.{unwrap_or};
-ghost use Rattle.search.specs.Search.{whole, vector as vector-of};
+ghost use Rattle.search.specs.Search.{whole, vector as vector_of};
 ghost use Rattle.turns.specs.Plain.{byte, bytes, bits};
 
 // Whether every byte is 0 or 1.
@@ -67,7 +67,7 @@ pub fn decide_all(values: &[bool], setting: &mut [Option<bool>])
 // Writes a setting's vector into the first places; further places stay.
 pub fn write_vector(setting: &[Option<bool>], vector: &mut [u8])
     requires { length setting.now ≤ length vector.old }
-    ensures { vector.new ≡ bytes (vector-of setting.now) ++ drop (length setting.now) vector.old }
+    ensures { vector.new ≡ bytes (vector_of setting.now) ++ drop (length setting.now) vector.old }
 {
     for i in 0..setting.len() {
         vector[i] = byte_of(setting[i]);

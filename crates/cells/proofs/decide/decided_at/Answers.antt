@@ -5,9 +5,9 @@ use Rattle.cells.proofs.decide.decided_at.Goals as goal
 
 pub loop-pin-preserved : goal.loop-pin-preserved
 loop-pin-preserved g c =
-    forcing_more g.T.Time.kind c.args.table c.args.count c.args.row (pin_time c.args.times) c.loop-pin.pin (λ pin. get_or c.settled-at.result pin false) c.forced-by-enough.result
-    c.get-time.result c.only-if.result c.loop-pin.best c.sooner-of-best.result
-    c.get-time.ensures c.settled-at.ensures c.forced-by-enough.ensures c.only-if.ensures c.sooner-of-best.ensures c.loop-pin.invariant
+    forcing_more g.T.Time.kind c.args.table c.args.count c.args.row (pin_time c.args.times) c.loop-pin.pin (λ pin. get_or c.settled_at.result pin false) c.forced_by-enough.result
+    c.get-time.result c.only_if.result c.loop-pin.best c.sooner_of-best.result
+    c.get-time.ensures c.settled_at.ensures c.forced_by-enough.ensures c.only_if.ensures c.sooner_of-best.ensures c.loop-pin.invariant
 
 pub returns-in-Some : goal.returns-in-Some
 returns-in-Some g c =

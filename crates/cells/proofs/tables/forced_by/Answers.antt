@@ -4,14 +4,14 @@ use Rattle.cells.specs.Tables.{bit, agrees, every_below, implies}
 use Rattle.cells.proofs.Forcing.{forces_decides}
 use Rattle.cells.proofs.tables.forced_by.Goals as goal
 
-pub bit-of-requires : goal.bit-of-requires
-bit-of-requires c = let few : 2 ^ c.args.count ≤ 2 ^ 4 = pow_mono c.requires.0 in omega arith
+pub bit_of-requires : goal.bit_of-requires
+bit_of-requires c = let few : 2 ^ c.args.count ≤ 2 ^ 4 = pow_mono c.requires.0 in omega arith
 
-pub bit-of-requires-in-loop-other : goal.bit-of-requires-in-loop-other
-bit-of-requires-in-loop-other c = let few : 2 ^ c.args.count ≤ 2 ^ 4 = pow_mono c.requires.0 in omega arith
+pub bit_of-requires-in-loop-other : goal.bit_of-requires-in-loop-other
+bit_of-requires-in-loop-other c = let few : 2 ^ c.args.count ≤ 2 ^ 4 = pow_mono c.requires.0 in omega arith
 
 pub loop-other-preserved : goal.loop-other-preserved
-loop-other-preserved c = simp (add-one, c.agrees-at.ensures, c.bit-of.ensures, c.bit-of-in-loop-other.ensures, c.loop-other.invariant)
+loop-other-preserved c = simp (add-one, c.agrees_at.ensures, c.bit_of.ensures, c.bit_of-in-loop-other.ensures, c.loop-other.invariant)
 
 pub returns : goal.returns
 returns c =

@@ -2,13 +2,13 @@ use Rattle.std.proofs.Common.{sym, inl, inr, arith, true-eqb, false-eqb}
 use Rattle.std.proofs.lemmas.List.{take_rest}
 use Rattle.grammar.proofs.Fronts.{name_no, name_yes, word_no, word_yes, delay_no, delay_zero, delay_more}
 use Rattle.grammar.proofs.scan.cell_word_len.Goals as goal
-use Rattle.grammar.proofs.scan.cell_word_len.Goals.{then-n-s-via-then-n-s, then-n-s-via-else-n-s+then-not-is-letter}
+use Rattle.grammar.proofs.scan.cell_word_len.Goals.{then-n-s-via-then-n-s, then-n-s-via-else-n-s+then-not-is_letter}
 
 pub returns-then-n-s : goal.returns-then-n-s
 returns-then-n-s c =
     word_no c.args.s.now c.stars-n.result c.stars-n.ensures
-    (elim c.then-n-s.branch [ then-n-s-via-then-n-s w ↦ inl w.if-n-s.true | then-n-s-via-else-n-s+then-not-is-letter w ↦ inr (sym w.if-not-is-letter.ensures) ])
+    (elim c.then-n-s.branch [ then-n-s-via-then-n-s w ↦ inl w.if-n-s.true | then-n-s-via-else-n-s+then-not-is_letter w ↦ inr (sym w.if-not-is_letter.ensures) ])
 
 pub returns : goal.returns
 returns c =
-    word_yes c.args.s.now _ c.stars-n.result c.name_bytes.result c.stars-n.ensures (omega arith) (sym c.if-not-is-letter.ensures) (take_rest c.args.s.now _) c.name_bytes.ensures
+    word_yes c.args.s.now _ c.stars-n.result c.name_bytes.result c.stars-n.ensures (omega arith) (sym c.if-not-is_letter.ensures) (take_rest c.args.s.now _) c.name_bytes.ensures

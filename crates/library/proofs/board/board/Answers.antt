@@ -10,10 +10,10 @@ pushed {maj = maj} {mux = mux} p q r = r ∙ ap (λ v. v ++ (mux ∷ [])) (q ∙
 
 pub new-requires : goal.new-requires
 new-requires c =
-    let both = pushed c.in-ok-entries.ensures.items c.push-reserved.ensures.items c.push-reserved-2.ensures.items in
+    let both = pushed c.in_ok-entries.ensures.items c.push_reserved.ensures.items c.push_reserved-2.ensures.items in
     subst NoneBad (sym both) (board_good c.of.result c.of-2.result c.of.ensures c.of-2.ensures)
 
 pub returns : goal.returns
 returns c =
-    let both = pushed c.in-ok-entries.ensures.items c.push-reserved.ensures.items c.push-reserved-2.ensures.items in
+    let both = pushed c.in_ok-entries.ensures.items c.push_reserved.ensures.items c.push_reserved-2.ensures.items in
     subst BoardEntries (sym (c.new.ensures.same ∙ both)) (board_entries c.of.result c.of-2.result c.of.ensures c.of-2.ensures)

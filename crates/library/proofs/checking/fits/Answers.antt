@@ -6,8 +6,8 @@ use Rattle.library.proofs.checking.fits.Goals as goal
 few_rows : (pins : ℕ) → pins ≤ 4 → 2 ^ pins < 32
 few_rows pins few = pow_below pins 5 (omega arith)
 
-pub overflow-shl-result-2 : goal.overflow-shl-result-2
-overflow-shl-result-2 c = omega (arith, one_shl c.args.pins 32 (omega arith), few_rows c.args.pins c.requires)
+pub overflow_shl-result-2 : goal.overflow_shl-result-2
+overflow_shl-result-2 c = omega (arith, one_shl c.args.pins 32 (omega arith), few_rows c.args.pins c.requires)
 
 pub returns : goal.returns
 returns c =

@@ -11,11 +11,11 @@ step entries i entry word pins b l read t =
     ∙ ap (λ (e : Entry). assigned (e ∷ drop (i + 1) entries) word pins) (sym read)
     ∙ ap (λ v. cond v (Some entry.table) (assigned (drop (i + 1) entries) word pins)) (sym t)
 
-pub returns-then-is-for : goal.returns-then-is-for
-returns-then-is-for c = sym (step c.args.entries.now c.loop-entry.entry-index c.entry-item.result c.args.word.now c.args.pins true c.loop-entry-test.true c.entry-item.is c.if-is-for.ensures) ∙ c.loop-entry.invariant
+pub returns-then-is_for : goal.returns-then-is_for
+returns-then-is_for c = sym (step c.args.entries.now c.loop-entry.entry-index c.entry-item.result c.args.word.now c.args.pins true c.loop-entry-test.true c.entry-item.is c.if-is_for.ensures) ∙ c.loop-entry.invariant
 
 pub loop-entry-preserved : goal.loop-entry-preserved
-loop-entry-preserved c = sym (step c.args.entries.now c.loop-entry.entry-index c.entry-item.result c.args.word.now c.args.pins false c.loop-entry-test.true c.entry-item.is c.if-is-for.ensures) ∙ c.loop-entry.invariant
+loop-entry-preserved c = sym (step c.args.entries.now c.loop-entry.entry-index c.entry-item.result c.args.word.now c.args.pins false c.loop-entry-test.true c.entry-item.is c.if-is_for.ensures) ∙ c.loop-entry.invariant
 
 pub returns : goal.returns
 returns c = sym (at_drop_all (λ v. assigned v c.args.word.now c.args.pins) c.args.entries.now c.loop-entry.entry-index c.loop-entry-test.false) ∙ c.loop-entry.invariant

@@ -4,4 +4,4 @@ use Rattle.grammar.specs.Views.{view, views}
 use Rattle.grammar.proofs.reader.Reader.keep.Goals as goal
 
 pub returns : goal.returns
-returns c = record { text = refl; on = refl; kept = ap views c.push-reserved.ensures.items ∙ map_push view (vec_items c.args.self.now.words) _ }
+returns c = record { text = refl; on = refl; kept = ap views c.push_reserved.ensures.items ∙ map_push view (vec_items c.args.self.now.words) _ }

@@ -4,38 +4,38 @@ use Rattle.std.proofs.lemmas.Result.{err_from_is_err_and}
 use Rattle.network.proofs.Refused.{slow_then, cell_no_table, cell_delay, cell_full, cell_pin, cell_fine}
 use Rattle.network.proofs.draft.Draft.add_labelled.Goals as goal
 
-pub returns-in-default : goal.returns-in-default
-returns-in-default g c = (cell_no_table _ _ _ _ _ _ c.requires.lawful c.requires.free (sym c.in-default.ensures), refl)
+pub returns-in_default : goal.returns-in_default
+returns-in_default g c = (cell_no_table _ _ _ _ _ _ c.requires.lawful c.requires.free (sym c.in_default.ensures), refl)
 
-pub returns-in-err-check-delay : goal.returns-in-err-check-delay
-returns-in-err-check-delay g c =
-    let p = err_from_is_err_and c.from-residual.result c.from-residual.ensures.1 in
-    rw (p.1, p.2) (cell_delay _ _ _ _ _ _ c.requires.lawful c.requires.free _ (sym c.in-Some.ensures) _ c.in-err-check-delay.ensures, refl)
+pub returns-in_err-check_delay : goal.returns-in_err-check_delay
+returns-in_err-check_delay g c =
+    let p = err_from_is_err_and c.from_residual.result c.from_residual.ensures.1 in
+    rw (p.1, p.2) (cell_delay _ _ _ _ _ _ c.requires.lawful c.requires.free _ (sym c.in-Some.ensures) _ c.in_err-check_delay.ensures, refl)
 
-pub returns-then-line-ge-MAX-LINES : goal.returns-then-line-ge-MAX-LINES
-returns-then-line-ge-MAX-LINES g c = (cell_full _ _ _ _ _ _ c.requires.lawful c.requires.free _ (sym c.in-Some.ensures) c.in-ok-check-delay.ensures (omega arith), refl)
+pub returns-then-line-ge-MAX_LINES : goal.returns-then-line-ge-MAX_LINES
+returns-then-line-ge-MAX_LINES g c = (cell_full _ _ _ _ _ _ c.requires.lawful c.requires.free _ (sym c.in-Some.ensures) c.in_ok-check_delay.ensures (omega arith), refl)
 
-pub returns-then-not-are-below : goal.returns-then-not-are-below
-returns-then-not-are-below g c = (cell_pin _ _ _ _ _ _ c.requires.lawful c.requires.free _ (sym c.in-Some.ensures) c.in-ok-check-delay.ensures (omega arith) _ c.if-not-are-below.ensures.1 (omega (arith, c.if-not-are-below.ensures.2)), refl)
+pub returns-then-not-are_below : goal.returns-then-not-are_below
+returns-then-not-are_below g c = (cell_pin _ _ _ _ _ _ c.requires.lawful c.requires.free _ (sym c.in-Some.ensures) c.in_ok-check_delay.ensures (omega arith) _ c.if-not-are_below.ensures.1 (omega (arith, c.if-not-are_below.ensures.2)), refl)
 
-pub push-cell-requires : goal.push-cell-requires
-push-cell-requires g c =
+pub push_cell-requires : goal.push_cell-requires
+push_cell-requires g c =
     let law = g.met.F.Family.lawful c.args.family.now c.args.word.now _ _ (sym c.in-Some.ensures) in
     record {
       room = omega arith;
       some = law.some_pins;
       few = law.few_pins;
-      lower = λ pin h. omega (arith, c.if-not-are-below.ensures pin h);
+      lower = λ pin h. omega (arith, c.if-not-are_below.ensures pin h);
       fits = law.fits;
-      slow = slow_then _ c.in-ok-check-delay.ensures;
+      slow = slow_then _ c.in_ok-check_delay.ensures;
     }
 
 pub returns : goal.returns
 returns g c =
     record {
-      asked = cell_fine _ _ _ _ _ _ c.requires.lawful c.requires.free _ (sym c.in-Some.ensures) c.in-ok-check-delay.ensures (omega arith) (λ pin h. omega (arith, c.if-not-are-below.ensures pin h));
+      asked = cell_fine _ _ _ _ _ _ c.requires.lawful c.requires.free _ (sym c.in-Some.ensures) c.in_ok-check_delay.ensures (omega arith) (λ pin h. omega (arith, c.if-not-are_below.ensures pin h));
       table = c.in-Some.table;
       assigned = sym c.in-Some.ensures;
       number = omega arith;
-      sketch = c.push-cell.ensures;
+      sketch = c.push_cell.ensures;
     }

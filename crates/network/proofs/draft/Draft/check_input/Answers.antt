@@ -1,13 +1,13 @@
 use Rattle.std.proofs.Common.{arith}
 use Rattle.network.proofs.Refused.{room_inputs, room_full, room_after, room_fine}
 use Rattle.network.proofs.draft.Draft.check_input.Goals as goal
-use Rattle.network.proofs.draft.Draft.check_input.Goals.{then-self-ge-MAX-INPUTS-via-then-self-ge-MAX-INPUTS, then-self-ge-MAX-INPUTS-via-else-self-ge-MAX-INPUTS+then-len-ge-MAX-LINES}
+use Rattle.network.proofs.draft.Draft.check_input.Goals.{then-self-ge-MAX_INPUTS-via-then-self-ge-MAX_INPUTS, then-self-ge-MAX_INPUTS-via-else-self-ge-MAX_INPUTS+then-len-ge-MAX_LINES}
 
-pub returns-then-self-ge-MAX-INPUTS : goal.returns-then-self-ge-MAX-INPUTS
-returns-then-self-ge-MAX-INPUTS c =
-    elim c.then-self-ge-MAX-INPUTS.branch [
-      | then-self-ge-MAX-INPUTS-via-then-self-ge-MAX-INPUTS w ↦ room_inputs _ (omega (arith, w.if-self-ge-MAX-INPUTS.true))
-      | then-self-ge-MAX-INPUTS-via-else-self-ge-MAX-INPUTS+then-len-ge-MAX-LINES w ↦ room_full _ (omega (arith, w.len.ensures, w.if-len-ge-MAX-LINES.true))
+pub returns-then-self-ge-MAX_INPUTS : goal.returns-then-self-ge-MAX_INPUTS
+returns-then-self-ge-MAX_INPUTS c =
+    elim c.then-self-ge-MAX_INPUTS.branch [
+      | then-self-ge-MAX_INPUTS-via-then-self-ge-MAX_INPUTS w ↦ room_inputs _ (omega (arith, w.if-self-ge-MAX_INPUTS.true))
+      | then-self-ge-MAX_INPUTS-via-else-self-ge-MAX_INPUTS+then-len-ge-MAX_LINES w ↦ room_full _ (omega (arith, w.len.ensures, w.if-len-ge-MAX_LINES.true))
     ]
 
 pub returns-then-self-len : goal.returns-then-self-len

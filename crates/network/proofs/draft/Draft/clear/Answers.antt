@@ -3,7 +3,12 @@ use Rattle.lines.specs.Lines.{inputs}
 use Rattle.network.proofs.Pushing.{none_lawful}
 use Rattle.network.proofs.draft.Draft.clear.Goals as goal
 
-pub invariant-of-self : goal.invariant-of-self
-invariant-of-self c =
+pub invariant_of-self : goal.invariant_of-self
+invariant_of-self c =
     let items = c.clear.ensures.items in
-    ((omega arith, omega arith), ((omega arith, omega arith, omega arith), (sym (ap inputs items), (none_lawful _ items, tt))))
+    record {
+      room = (omega arith, omega arith);
+      sizes = (omega arith, omega arith, omega arith);
+      counted = sym (ap inputs items);
+      lawful = none_lawful _ items;
+    }

@@ -3,8 +3,13 @@ use Rattle.lines.specs.Lines.{inputs}
 use Rattle.network.proofs.Pushing.{none_lawful}
 use Rattle.network.proofs.draft.Draft.new.Goals as goal
 
-pub invariant-of-result : goal.invariant-of-result
-invariant-of-result c =
-    let lines = c.in-ok-lines.ensures in
-    let names = c.in-ok-names.ensures.made in
-    ((omega arith, omega arith), ((omega arith, omega arith, omega arith), (sym (ap inputs lines.items), (none_lawful _ lines.items, tt))))
+pub invariant_of-result : goal.invariant_of-result
+invariant_of-result c =
+    let lines = c.in_ok-lines.ensures in
+    let names = c.in_ok-names.ensures in
+    record {
+      room = (omega arith, omega arith);
+      sizes = (omega arith, omega arith, omega arith);
+      counted = sym (ap inputs lines.items);
+      lawful = none_lawful _ lines.items;
+    }

@@ -6,16 +6,21 @@ use Rattle.network.specs.Sketches.{name_bytes, input_line}
 use Rattle.network.proofs.Pushing.{with_input_lawful}
 use Rattle.network.proofs.draft.Draft.push_input.Goals as goal
 
-pub invariant-of-self : goal.invariant-of-self
-invariant-of-self c =
+pub invariant_of-self : goal.invariant_of-self
+invariant_of-self c =
     let draft = c.args.self.now in
-    let items = c.push-reserved.ensures.items in
+    let items = c.push_reserved.ensures.items in
     let count = ap inputs items ∙ inputs_push (vec_items draft.lines) (input_line c.args.delay) in
-    ((omega arith, omega arith), ((omega arith, omega arith, omega arith), (omega (arith, count), (with_input_lawful (vec_items draft.lines) _ c.args.delay items (omega arith) c.requires.slow draft.lawful, tt))))
+    record {
+      room = (omega arith, omega arith);
+      sizes = (omega arith, omega arith, omega arith);
+      counted = omega (arith, count);
+      lawful = with_input_lawful (vec_items draft.lines) _ c.args.delay items (omega arith) c.requires.slow draft.lawful;
+    }
 
 pub returns : goal.returns
 returns c =
     let draft = c.args.self.now in
-    let named = ap (map name_bytes) c.push-reserved-2.ensures.items ∙ map_push name_bytes (vec_items draft.names) (Some c.args.name) in
-    ap (λ v. record { lines = v; names = map name_bytes (vec_items c.push-reserved-2.new.self) }) c.push-reserved.ensures.items
+    let named = ap (map name_bytes) c.push_reserved-2.ensures.items ∙ map_push name_bytes (vec_items draft.names) (Some c.args.name) in
+    ap (λ v. record { lines = v; names = map name_bytes (vec_items c.push_reserved-2.new.self) }) c.push_reserved.ensures.items
     ∙ ap (λ v. record { lines = vec_items draft.lines ++ (input_line c.args.delay ∷ []); names = v }) named
