@@ -9,8 +9,8 @@ use Rattle.drawing.proofs.Loop.{words_more, fits_more}
 use Rattle.drawing.proofs.Turns.{sheet_broke}
 use Rattle.drawing.proofs.read.draw_words.Goals as goal
 
-pub draw-word-requires : goal.draw-word-requires
-draw-word-requires g c =
+pub draw_word-requires : goal.draw_word-requires
+draw_word-requires g c =
     let fam = g.F.Family.assigns c.args.family.now in
     (fits_more fam (picture c.loop-word.pen (sketch c.loop-word.draft)) c.args.words.now c.loop-word.word-index _ c.loop-word-test.true c.loop-word.invariant.1).0
 
@@ -20,20 +20,20 @@ loop-word-preserved g c =
     let words = c.args.words.now in
     let i = c.loop-word.word-index in
     let p = picture c.loop-word.pen (sketch c.loop-word.draft) in
-    let drawn = c.in-ok-draw-word.ensures in (
+    let drawn = c.in_ok-draw_word.ensures in (
       sym (words_more fam p words i _ c.loop-word-test.true ∙ ap (λ a. then a (λ q. draw_words fam q (views (drop (i + 1) words)))) drawn) ∙ c.loop-word.invariant.0,
       (fits_more fam p words i _ c.loop-word-test.true c.loop-word.invariant.1).1 _ drawn,
     )
 
-pub returns-in-err-draw-word : goal.returns-in-err-draw-word
-returns-in-err-draw-word g c =
+pub returns-in_err-draw_word : goal.returns-in_err-draw_word
+returns-in_err-draw_word g c =
     let fam = g.F.Family.assigns c.args.family.now in
     let words = c.args.words.now in
     let i = c.loop-word.word-index in
     let p = picture c.loop-word.pen (sketch c.loop-word.draft) in
-    let refused = c.in-err-draw-word.ensures in
+    let refused = c.in_err-draw_word.ensures in
     let all = sym c.loop-word.invariant.0 ∙ words_more fam p words i _ c.loop-word-test.true ∙ ap (λ a. then a (λ q. draw_words fam q (views (drop (i + 1) words)))) refused in
-    sheet_broke c.from-residual.result c.in-err-draw-word.field-0.0 _ _ c.from-residual.ensures.1 (ap (λ a. then a (λ (q : Picture). Answer.done q.sketch)) all)
+    sheet_broke c.from_residual.result c.in_err-draw_word.field-0.0 _ _ c.from_residual.ensures.1 (ap (λ a. then a (λ (q : Picture). Answer.done q.sketch)) all)
 
 pub returns : goal.returns
 returns g c =

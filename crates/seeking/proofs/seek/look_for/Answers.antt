@@ -12,13 +12,13 @@ use Rattle.seeking.proofs.seek.look_for.Goals as goal
 pub looking-init : goal.looking-init
 looking-init g c = ap looking (sym c.requires.start)
 
-pub overflow-add-looks : goal.overflow-add-looks
-overflow-add-looks g c =
+pub overflow_add-looks : goal.overflow_add-looks
+overflow_add-looks g c =
     let n = counts (cuts g.T.Time.kind c.args.lines.now c.args.ties.now c.args.line c.args.value c.args.bound) c.args.ties.now c.looking.setting c.looking.looks c.looking.invariant c.requires.few in
     omega (arith, n)
 
-pub latest-at-late-requires : goal.latest-at-late-requires
-latest-at-late-requires g c =
+pub latest_at-late-requires : goal.latest_at-late-requires
+latest_at-late-requires g c =
     let long = over_length c.args.ties.now c.looking.setting (over_so_far (cuts g.T.Time.kind c.args.lines.now c.args.ties.now c.args.line c.args.value c.args.bound) c.args.ties.now c.looking.setting c.looking.looks c.looking.invariant) in
     record { lawful = c.requires.lawful; ties = omega arith; inputs = omega (arith, long); room = omega arith; present = c.requires.present }
 
@@ -28,9 +28,9 @@ pass-requires g c = over_so_far (cuts g.T.Time.kind c.args.lines.now c.args.ties
 pub returns-then-next-setting : goal.returns-then-next-setting
 returns-then-next-setting g c =
     let kind = g.T.Time.kind in
-    let uncut = not-true (cut kind c.args.bound c.latest-at-late.result) (sym c.reaches.ensures ∙ c.if-reaches.true) in
-    found_at_end kind g.met.T.Time.lawful c.args.lines.now c.requires.lawful c.args.line c.requires.present c.args.value c.args.bound c.args.ties.now c.requires.inputs c.looking.setting c.looking.looks c.looking.invariant c.latest-at-late.result c.latest-at-late.ensures
-    (ap (cut kind c.args.bound) (sym c.latest-at-late.ensures) ∙ uncut) (open_none c.looking.setting (sym c.next-open-next.ensures.first ∙ c.if-next-setting.true))
+    let uncut = not-true (cut kind c.args.bound c.latest_at-late.result) (sym c.reaches.ensures ∙ c.if-reaches.true) in
+    found_at_end kind g.met.T.Time.lawful c.args.lines.now c.requires.lawful c.args.line c.requires.present c.args.value c.args.bound c.args.ties.now c.requires.inputs c.looking.setting c.looking.looks c.looking.invariant c.latest_at-late.result c.latest_at-late.ensures
+    (ap (cut kind c.args.bound) (sym c.latest_at-late.ensures) ∙ uncut) (open_none c.looking.setting (sym c.next_open-next.ensures.first ∙ c.if-next-setting.true))
 
 pub looking-smaller-then-reaches : goal.looking-smaller-then-reaches
 looking-smaller-then-reaches g c = less (cuts g.T.Time.kind c.args.lines.now c.args.ties.now c.args.line c.args.value c.args.bound) c.args.ties.now c.looking.setting c.looking.looks c.looking.invariant
@@ -38,19 +38,19 @@ looking-smaller-then-reaches g c = less (cuts g.T.Time.kind c.args.lines.now c.a
 pub looking-preserved-then-reaches : goal.looking-preserved-then-reaches
 looking-preserved-then-reaches g c =
     let kind = g.T.Time.kind in
-    let uncut = not-true (cut kind c.args.bound c.latest-at-late.result) (sym c.reaches.ensures ∙ c.if-reaches.true) in
-    let here = c.next-open-next.ensures.first in
-    let k = open_left c.looking.setting c.next-open-next.result here c.if-next-setting.false in
-    again_open (cuts g.T.Time.kind c.args.lines.now c.args.ties.now c.args.line c.args.value c.args.bound) c.args.ties.now c.looking.setting c.looking.looks c.looking.invariant (set c.looking.setting c.next-open-next.result (Some false)) k.0
-    (ap (cut kind c.args.bound) (sym c.latest-at-late.ensures) ∙ uncut) k.1 (decided c.looking.setting c.next-open-next.result here false)
+    let uncut = not-true (cut kind c.args.bound c.latest_at-late.result) (sym c.reaches.ensures ∙ c.if-reaches.true) in
+    let here = c.next_open-next.ensures.first in
+    let k = open_left c.looking.setting c.next_open-next.result here c.if-next-setting.false in
+    again_open (cuts g.T.Time.kind c.args.lines.now c.args.ties.now c.args.line c.args.value c.args.bound) c.args.ties.now c.looking.setting c.looking.looks c.looking.invariant (set c.looking.setting c.next_open-next.result (Some false)) k.0
+    (ap (cut kind c.args.bound) (sym c.latest_at-late.ensures) ∙ uncut) k.1 (decided c.looking.setting c.next_open-next.result here false)
 
 pub returns-then-not-pass : goal.returns-then-not-pass
 returns-then-not-pass g c =
     let kind = g.T.Time.kind in
-    let is_cut = not-false (cut kind c.args.bound c.latest-at-late.result) (sym c.reaches.ensures ∙ c.if-reaches.false) in
+    let is_cut = not-false (cut kind c.args.bound c.latest_at-late.result) (sym c.reaches.ensures ∙ c.if-reaches.false) in
     let e = at_end c.args.ties.now c.pass.new.setting (next_setting c.args.ties.now c.looking.setting) c.pass.result c.pass.ensures.answer c.if-not-pass.true c.pass.ensures.setting in
     nothing_at_end kind g.met.T.Time.lawful c.args.lines.now c.requires.lawful c.args.line c.requires.present c.args.value c.args.bound c.args.ties.now c.requires.inputs c.looking.setting c.looking.looks c.looking.invariant c.pass.new.setting
-    (ap (cut kind c.args.bound) (sym c.latest-at-late.ensures) ∙ is_cut) e.0 e.1
+    (ap (cut kind c.args.bound) (sym c.latest_at-late.ensures) ∙ is_cut) e.0 e.1
 
 pub looking-smaller : goal.looking-smaller
 looking-smaller g c = less (cuts g.T.Time.kind c.args.lines.now c.args.ties.now c.args.line c.args.value c.args.bound) c.args.ties.now c.looking.setting c.looking.looks c.looking.invariant
@@ -58,6 +58,6 @@ looking-smaller g c = less (cuts g.T.Time.kind c.args.lines.now c.args.ties.now 
 pub looking-preserved : goal.looking-preserved
 looking-preserved g c =
     let kind = g.T.Time.kind in
-    let is_cut = not-false (cut kind c.args.bound c.latest-at-late.result) (sym c.reaches.ensures ∙ c.if-reaches.false) in
+    let is_cut = not-false (cut kind c.args.bound c.latest_at-late.result) (sym c.reaches.ensures ∙ c.if-reaches.false) in
     let e = gone_on c.args.ties.now c.pass.new.setting (next_setting c.args.ties.now c.looking.setting) c.pass.result c.pass.ensures.answer c.if-not-pass.false c.pass.ensures.setting in
-    again_cut (cuts g.T.Time.kind c.args.lines.now c.args.ties.now c.args.line c.args.value c.args.bound) c.args.ties.now c.looking.setting c.looking.looks c.looking.invariant c.pass.new.setting (ap (cut kind c.args.bound) (sym c.latest-at-late.ensures) ∙ is_cut) e
+    again_cut (cuts g.T.Time.kind c.args.lines.now c.args.ties.now c.args.line c.args.value c.args.bound) c.args.ties.now c.looking.setting c.looking.looks c.looking.invariant c.pass.new.setting (ap (cut kind c.args.bound) (sym c.latest_at-late.ensures) ∙ is_cut) e

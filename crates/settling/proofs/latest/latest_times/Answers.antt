@@ -6,14 +6,14 @@ use Rattle.settling.specs.Latest.{in_setting}
 use Rattle.settling.proofs.LatestWrites.{latest_more, latest_all}
 use Rattle.settling.proofs.latest.latest_times.Goals as goal
 
-pub line-latest-times-requires : goal.line-latest-times-requires
-line-latest-times-requires g c =
+pub line_latest-times-requires : goal.line_latest-times-requires
+line_latest-times-requires g c =
     ((inputs c.args.lines.now, (lawful_at c.args.lines.now c.loop-number.number no_line c.requires.lawful c.loop-number-test.true).in_order, c.requires.ties, c.requires.setting), omega arith)
 
 pub loop-number-preserved : goal.loop-number-preserved
 loop-number-preserved g c =
     c.put.ensures ∙ latest_more g.T.Time.kind g.met.T.Time.lawful (tied_by c.args.ties.now) c.args.lines.now (in_setting c.args.setting.now) c.requires.lawful c.loop-number.number c.loop-number.work c.args.work.now c.loop-number.invariant
-    c.loop-number-test.true (omega arith) c.line-latest-times.result c.line-latest-times.ensures
+    c.loop-number-test.true (omega arith) c.line_latest-times.result c.line_latest-times.ensures
 
 pub returns : goal.returns
 returns g c =

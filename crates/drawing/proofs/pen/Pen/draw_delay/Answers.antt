@@ -12,14 +12,14 @@ use Rattle.drawing.proofs.Steps.{delay_refused, delay_fine, input_refused}
 use Rattle.drawing.proofs.Turns.{placed_ok, draft_broke, picture_of, delay_by, delayed_cell}
 use Rattle.drawing.proofs.pen.Pen.draw_delay.Goals as goal
 
-pub returns-in-err-at : goal.returns-in-err-at
-returns-in-err-at c =
+pub returns-in_err-at : goal.returns-in_err-at
+returns-in_err-at c =
     let s = sketch c.args.draft.now in
     let digits = c.args.digits.now in
     let none = no_cells c.args.self.now c.if-self-eq0.true in
-    draft_broke c.add-input.result c.args.place c.in-err-at.field-0.0 c.from-residual.result _ _ (sym c.at.ensures ∙ c.in-err-at.was) c.from-residual.ensures.1
+    draft_broke c.add_input.result c.args.place c.in_err-at.field-0.0 c.from_residual.result _ _ (sym c.at.ensures ∙ c.in_err-at.was) c.from_residual.ensures.1
     (λ f e. delay_by (picture c.args.self.now s) digits c.args.place _ (input_refused s (bytes_of c.args.self.now.name) digits c.args.place _ (c.requires.ready none).0 (c.requires.ready none).1
-    (subst (λ v. InputWrong s v (number_from 0 digits) (number f)) c.as-bytes.ensures (subst (λ v. InputWrong s c.as-bytes.result.now v (number f)) c.value-delay.ensures (subst (InputAdd c.args.draft.now c.add-input.new.self c.as-bytes.result.now c.value-delay.result) e c.add-input.ensures).0.fits))))
+    (subst (λ v. InputWrong s v (number_from 0 digits) (number f)) c.as_bytes.ensures (subst (λ v. InputWrong s c.as_bytes.result.now v (number f)) c.value-delay.ensures (subst (InputAdd c.args.draft.now c.add_input.new.self c.as_bytes.result.now c.value-delay.result) e c.add_input.ensures).0.fits))))
 
 pub returns-then-self-eq0 : goal.returns-then-self-eq0
 returns-then-self-eq0 c =
@@ -28,19 +28,19 @@ returns-then-self-eq0 c =
     let digits = c.args.digits.now in
     let form = bytes_of c.args.self.now.name in
     let none = no_cells c.args.self.now c.if-self-eq0.true in
-    let ok = placed_ok c.add-input.result c.args.place _ (sym c.at.ensures ∙ c.in-ok-at.was) in
-    let added = subst (InputAdd c.args.draft.now c.add-input.new.self c.as-bytes.result.now c.value-delay.result) ok c.add-input.ensures in
+    let ok = placed_ok c.add_input.result c.args.place _ (sym c.at.ensures ∙ c.in_ok-at.was) in
+    let added = subst (InputAdd c.args.draft.now c.add_input.new.self c.as_bytes.result.now c.value-delay.result) ok c.add_input.ensures in
     let slow = subst (λ v. NothingWrong (DelayWrong v)) c.value-delay.ensures (λ k w. added.asked k (InputWrong.in_delay w)) in
-    let drawn = sym (added.sketch ∙ ap (λ v. with_input s v c.value-delay.result) c.as-bytes.ensures ∙ ap (with_input s form) c.value-delay.ensures) in
+    let drawn = sym (added.sketch ∙ ap (λ v. with_input s v c.value-delay.result) c.as_bytes.ensures ∙ ap (with_input s form) c.value-delay.ensures) in
     delay_by p digits c.args.place _ (delay_fine digits c.args.place slow)
     ∙ ap (λ v. Answer.done (delayed p v (number_from 0 digits))) none
     ∙ ap Answer.done (picture_of c.args.self.now c.args.self.now _ _ [] refl none drawn)
 
-pub returns-in-err-at-2 : goal.returns-in-err-at-2
-returns-in-err-at-2 c =
+pub returns-in_err-at-2 : goal.returns-in_err-at-2
+returns-in_err-at-2 c =
     let digits = c.args.digits.now in
-    draft_broke c.check-delay.result c.args.place c.in-err-at-2.field-0.0 c.from-residual-in-err-at-2.result _ _ (sym c.at-2.ensures ∙ c.in-err-at-2.was) c.from-residual-in-err-at-2.ensures.1
-    (λ f e. delay_by (picture c.args.self.now (sketch c.args.draft.now)) digits c.args.place _ (delay_refused digits c.args.place _ (subst (λ v. DelayWrong v (number f)) c.value-delay.ensures (subst (Checked (DelayWrong c.value-delay.result)) e c.check-delay.ensures).fits)))
+    draft_broke c.check_delay.result c.args.place c.in_err-at-2.field-0.0 c.from_residual-in_err-at-2.result _ _ (sym c.at-2.ensures ∙ c.in_err-at-2.was) c.from_residual-in_err-at-2.ensures.1
+    (λ f e. delay_by (picture c.args.self.now (sketch c.args.draft.now)) digits c.args.place _ (delay_refused digits c.args.place _ (subst (λ v. DelayWrong v (number f)) c.value-delay.ensures (subst (Checked (DelayWrong c.value-delay.result)) e c.check_delay.ensures).fits)))
 
 pub returns : goal.returns
 returns c =
@@ -48,8 +48,8 @@ returns c =
     let p = picture c.args.self.now s in
     let digits = c.args.digits.now in
     let cells = open_stack c.args.self.now in
-    let ok = placed_ok c.check-delay.result c.args.place _ (sym c.at-2.ensures ∙ c.in-ok-at-2.was) in
-    let slow = subst (λ v. NothingWrong (DelayWrong v)) c.value-delay.ensures (subst (Checked (DelayWrong c.value-delay.result)) ok c.check-delay.ensures) in
+    let ok = placed_ok c.check_delay.result c.args.place _ (sym c.at-2.ensures ∙ c.in_ok-at-2.was) in
+    let slow = subst (λ v. NothingWrong (DelayWrong v)) c.value-delay.ensures (subst (Checked (DelayWrong c.value-delay.result)) ok c.check_delay.ensures) in
     delay_by p digits c.args.place _ (delay_fine digits c.args.place slow)
     ∙ ap Answer.done (delayed_cell p cells (number_from 0 digits) (some_cells c.args.self.now (omega (arith, c.if-self-eq0.false))))
-    ∙ ap Answer.done (picture_of c.args.self.now c.set-delay.new.self s s _ c.set-delay.ensures.name (c.set-delay.ensures.cells ∙ ap (λ v. inner (with_delay v) cells) c.value-delay.ensures) refl)
+    ∙ ap Answer.done (picture_of c.args.self.now c.set_delay.new.self s s _ c.set_delay.ensures.name (c.set_delay.ensures.cells ∙ ap (λ v. inner (with_delay v) cells) c.value-delay.ensures) refl)
