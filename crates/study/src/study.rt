@@ -5,13 +5,12 @@ ghost use Rattle.lines.specs.Lines.{Lawful, inputs as inputs_among};
 
 use lines::limits::MAX_INPUTS;
 use lines::line::Line;
-use times::time::Time;
 
 // A network's lines with their present delays, the ties of its inputs, and for each line and value at most one ceiling:
 // a bound at or after which no vector that agrees with the ties settles the line to the value.
 // The ceiling of line L and value V stands at place 2L+V.
 #[derive(Drop)]
-pub struct Study<T: Time> {
+pub struct Study<T> {
     pub(crate) lines: Vec<Line>,
     pub(crate) inputs: usize,
     pub(crate) ties: [Option<bool>; MAX_INPUTS],

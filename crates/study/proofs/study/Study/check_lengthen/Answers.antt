@@ -4,8 +4,8 @@ use Rattle.lines.specs.Lines.{no_line, line_at}
 use Rattle.turns.proofs.Refused.{lengthen_5, lengthen_10, lengthen_13, lengthen_none}
 use Rattle.study.proofs.study.Study.check_lengthen.Goals as goal
 
-pub returns-then-delay-gt-MAX-DELAY : goal.returns-then-delay-gt-MAX-DELAY
-returns-then-delay-gt-MAX-DELAY g c = lengthen_5 _ _ _ (omega arith)
+pub returns-then-delay-gt-MAX_DELAY : goal.returns-then-delay-gt-MAX_DELAY
+returns-then-delay-gt-MAX_DELAY g c = lengthen_5 _ _ _ (omega arith)
 
 pub returns-then-line-len : goal.returns-then-line-len
 returns-then-line-len g c = lengthen_10 _ _ _ (omega arith) (omega arith)

@@ -17,15 +17,15 @@ returns-then-line-self g c =
     let long = ties_long study in
     tie_12 (plain_of study) c.args.line c.args.value (omega arith) (omega arith) (TieWrong.a_cell (omega arith) (omega (arith, long)))
 
-pub returns-then-is-some : goal.returns-then-is-some
-returns-then-is-some g c =
+pub returns-then-is_some : goal.returns-then-is_some
+returns-then-is_some g c =
     let study = c.args.self.now in
-    let at = some_of (get_or study.ties c.args.line None) c.is-some.result c.is-some.ensures c.if-is-some.true in
+    let at = some_of (get_or study.ties c.args.line None) c.is_some.result c.is_some.ensures c.if-is_some.true in
     tie_12 (plain_of study) c.args.line c.args.value (omega arith) (omega arith) (TieWrong.tied_already at.0 (tie_at study.inputs study.ties c.args.line (Some at.0) (omega arith) at.1))
 
 pub returns : goal.returns
 returns g c =
     let study = c.args.self.now in
     let long = ties_long study in
-    let untied = none_of (get_or study.ties c.args.line None) c.is-some.result c.is-some.ensures c.if-is-some.false in
+    let untied = none_of (get_or study.ties c.args.line None) c.is_some.result c.is_some.ensures c.if-is_some.false in
     tie_none (plain_of study) c.args.line c.args.value (omega arith) (omega arith) (omega (arith, long)) (tie_at study.inputs study.ties c.args.line None (omega arith) untied)

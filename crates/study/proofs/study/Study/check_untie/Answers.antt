@@ -12,14 +12,14 @@ returns-then-line-self g c =
     let study = c.args.self.now in
     untie_12 (plain_of study) c.args.line (omega arith) (tie_past study.inputs study.ties c.args.line (omega arith))
 
-pub returns-then-is-none : goal.returns-then-is-none
-returns-then-is-none g c =
+pub returns-then-is_none : goal.returns-then-is_none
+returns-then-is_none g c =
     let study = c.args.self.now in
-    let untied = none_of_not (get_or study.ties c.args.line None) c.is-none.result c.is-none.ensures c.if-is-none.true in
+    let untied = none_of_not (get_or study.ties c.args.line None) c.is_none.result c.is_none.ensures c.if-is_none.true in
     untie_12 (plain_of study) c.args.line (omega arith) (tie_at study.inputs study.ties c.args.line None (omega arith) untied)
 
 pub returns : goal.returns
 returns g c =
     let study = c.args.self.now in
-    let at = some_of_not (get_or study.ties c.args.line None) c.is-none.result c.is-none.ensures c.if-is-none.false in
+    let at = some_of_not (get_or study.ties c.args.line None) c.is_none.result c.is_none.ensures c.if-is_none.false in
     untie_none (plain_of study) c.args.line (omega arith) at.0 (tie_at study.inputs study.ties c.args.line (Some at.0) (omega arith) at.1)

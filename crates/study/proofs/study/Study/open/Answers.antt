@@ -8,16 +8,23 @@ use Rattle.study.proofs.study.Study.open.Goals as goal
 pub clear-requires : goal.clear-requires
 clear-requires g c = omega (arith, open_room c.args.network.lines.len c.args.ceilings.len c.requires)
 
-pub invariant-of-result : goal.invariant-of-result
-invariant-of-result g c =
+pub invariant_of-result : goal.invariant_of-result
+invariant_of-result g c =
     let network = c.args.network in
-    (network.lawful, (network.counted, (network.sizes.2, (network.sizes.1, (refl, (omega (arith, open_room network.lines.len c.args.ceilings.len c.requires), tt))))))
+    record {
+      lawful = network.lawful;
+      counted = network.counted;
+      few = network.sizes.2;
+      most = network.sizes.1;
+      whole = refl;
+      room = omega (arith, open_room network.lines.len c.args.ceilings.len c.requires);
+    }
 
 pub returns : goal.returns
 returns g c =
     let network = c.args.network in
     let plain = opened_is network.lines.items network.inputs network.sizes.2 network.counted in
-    let cleared = cleared_moved (2 * c.len.result) (2 * network.lines.len) _ _ _ _ (ap (λ n. 2 * n) (search rules)) c.deref-mut.ensures.value (sym (with_items_is c.args.ceilings c.clear.new.places (omega arith))) c.clear.ensures in
+    let cleared = cleared_moved (2 * c.len.result) (2 * network.lines.len) _ _ _ _ (ap (λ n. 2 * n) (search rules)) c.deref_mut.ensures.value (sym (with_items_is c.args.ceilings c.clear.new.places (omega arith))) c.clear.ensures in
     record {
       plain = plain;
       ceilings = cleared;

@@ -11,48 +11,48 @@ use Rattle.study.proofs.Shown.{few_undecided, vector_shown, looked_at, found_of,
 use Rattle.study.proofs.Stepping.{unchanged_self, keeps_refused, keeps_ceilings, keeps_recorded, refused_seek, accepted_covered, accepted_found, accepted_nothing}
 use Rattle.study.proofs.study.Study.seek.Goals as goal
 
-pub returns-in-err-check-seek : goal.returns-in-err-check-seek
-returns-in-err-check-seek g c =
-    let p = err_from_is_err_and c.from-residual.result c.from-residual.ensures.1 in
+pub returns-in_err-check_seek : goal.returns-in_err-check_seek
+returns-in_err-check_seek g c =
+    let p = err_from_is_err_and c.from_residual.result c.from_residual.ensures.1 in
     let study = c.args.self.now in
     rw (p.1, p.2)
     (record {
-      promise = refused_seek g.T.Time.kind g.met.T.Time.lawful study study c.args.line c.args.value c.args.bound c.args.vector.now c.args.work.now _ c.in-err-check-seek.ensures (unchanged_self study);
+      promise = refused_seek g.T.Time.kind g.met.T.Time.lawful study study c.args.line c.args.value c.args.bound c.args.vector.now c.args.work.now _ c.in_err-check_seek.ensures (unchanged_self study);
       keeps = keeps_refused study study _ (unchanged_self study);
     })
 
-pub overflow-mul-place : goal.overflow-mul-place
-overflow-mul-place g c =
+pub overflow_mul-place : goal.overflow_mul-place
+overflow_mul-place g c =
     let study = c.args.self.now in
-    omega (arith, seek_present _ _ _ _ _ c.in-ok-check-seek.ensures, study.most)
+    omega (arith, seek_present _ _ _ _ _ c.in_ok-check_seek.ensures, study.most)
 
-pub overflow-add-place : goal.overflow-add-place
-overflow-add-place g c =
+pub overflow_add-place : goal.overflow_add-place
+overflow_add-place g c =
     let study = c.args.self.now in
-    omega (arith, seek_present _ _ _ _ _ c.in-ok-check-seek.ensures, study.most)
+    omega (arith, seek_present _ _ _ _ _ c.in_ok-check_seek.ensures, study.most)
 
 pub index-ceiling-requires : goal.index-ceiling-requires
 index-ceiling-requires g c =
     let study = c.args.self.now in
-    let none = c.in-ok-check-seek.ensures in
+    let none = c.in_ok-check_seek.ensures in
     omega (arith, seek_present _ _ _ _ _ none, seek_bit _ _ _ _ _ none, study.room)
 
-pub returns-then-is-covered : goal.returns-then-is-covered
-returns-then-is-covered g c =
+pub returns-then-is_covered : goal.returns-then-is_covered
+returns-then-is_covered g c =
     let study = c.args.self.now in
     let kind = g.T.Time.kind in
-    let none = c.in-ok-check-seek.ensures in
+    let none = c.in_ok-check_seek.ensures in
     let present = seek_present _ _ _ _ _ none in
     let bit = seek_bit _ _ _ _ _ none in
     record {
-      promise = accepted_covered kind g.met.T.Time.lawful study _ c.args.line c.args.value c.args.bound c.args.vector.now c.args.work.now c.args.work.now none refl refl (covers_read kind study c.args.line c.args.value c.args.bound _ _ _ present bit c.index-ceiling.ensures c.is-covered.ensures c.if-is-covered.true) refl;
+      promise = accepted_covered kind g.met.T.Time.lawful study _ c.args.line c.args.value c.args.bound c.args.vector.now c.args.work.now c.args.work.now none refl refl (covers_read kind study c.args.line c.args.value c.args.bound _ _ _ present bit c.index-ceiling.ensures c.is_covered.ensures c.if-is_covered.true) refl;
       keeps = keeps_ceilings study _ (Nothing 0) refl;
     }
 
-pub look-for-looked-requires : goal.look-for-looked-requires
-look-for-looked-requires g c =
+pub look_for-looked-requires : goal.look_for-looked-requires
+look_for-looked-requires g c =
     let study = c.args.self.now in
-    let none = c.in-ok-check-seek.ensures in
+    let none = c.in_ok-check_seek.ensures in
     let long = ties_long study in
     let lines = ap length c.deref.ensures.value in
     record {
@@ -64,31 +64,31 @@ look-for-looked-requires g c =
       present = omega (arith, lines, seek_present _ _ _ _ _ none);
     }
 
-pub write-vector-requires : goal.write-vector-requires
-write-vector-requires g c =
+pub write_vector-requires : goal.write_vector-requires
+write_vector-requires g c =
     let study = c.args.self.now in
-    omega (arith, seek_room _ _ _ _ _ c.in-ok-check-seek.ensures, ties_long study)
+    omega (arith, seek_room _ _ _ _ _ c.in_ok-check_seek.ensures, ties_long study)
 
-pub index-mut-requires : goal.index-mut-requires
-index-mut-requires g c =
+pub index_mut-requires : goal.index_mut-requires
+index_mut-requires g c =
     let study = c.args.self.now in
-    let none = c.in-ok-check-seek.ensures in
+    let none = c.in_ok-check_seek.ensures in
     omega (arith, seek_present _ _ _ _ _ none, seek_bit _ _ _ _ _ none, study.room)
 
 pub returns-in-Some : goal.returns-in-Some
 returns-in-Some g c =
     let study = c.args.self.now in
     let kind = g.T.Time.kind in
-    let none = c.in-ok-check-seek.ensures in
+    let none = c.in_ok-check_seek.ensures in
     let present = seek_present _ _ _ _ _ none in
     let bit = seek_bit _ _ _ _ _ none in
-    let uncovered = covers_read kind study c.args.line c.args.value c.args.bound _ _ _ present bit c.index-ceiling.ensures c.is-covered.ensures c.if-is-covered.false in
-    let ends = looked_at kind _ study.lines.items c.deref.ensures.value (take study.inputs study.ties) c.args.line (is_one c.args.value) c.args.bound c.look-for-looked.new.setting c.look-for-looked.result.found c.look-for-looked.result.looks c.look-for-looked.ensures in
+    let uncovered = covers_read kind study c.args.line c.args.value c.args.bound _ _ _ present bit c.index-ceiling.ensures c.is_covered.ensures c.if-is_covered.false in
+    let ends = looked_at kind _ study.lines.items c.deref.ensures.value (take study.inputs study.ties) c.args.line (is_one c.args.value) c.args.bound c.look_for-looked.new.setting c.look_for-looked.result.found c.look_for-looked.result.looks c.look_for-looked.ensures in
     let shows = found_of kind study.lines.items (take study.inputs study.ties) c.args.line _ _ _ _ ends _ c.in-Some.is in
     record {
       promise = subst (Promises kind study _ (seek c.args.line c.args.value c.args.bound c.args.vector.now c.args.work.now))
-          (told_found c.look-for-looked.new.work shows.2 (sym ends.looks_are) (sym (vector_shown shows.0 c.look-for-looked.new.setting shows.3 c.args.vector.now _ c.write-vector.ensures)))
-          (accepted_found kind g.met.T.Time.lawful study _ c.args.line c.args.value c.args.bound c.args.vector.now c.args.work.now c.look-for-looked.new.work none (omega arith) refl uncovered shows.0 shows.1 refl);
+          (told_found c.look_for-looked.new.work shows.2 (sym ends.looks_are) (sym (vector_shown shows.0 c.look_for-looked.new.setting shows.3 c.args.vector.now _ c.write_vector.ensures)))
+          (accepted_found kind g.met.T.Time.lawful study _ c.args.line c.args.value c.args.bound c.args.vector.now c.args.work.now c.look_for-looked.new.work none (omega arith) refl uncovered shows.0 shows.1 refl);
       keeps = keeps_ceilings study _ _ refl;
     }
 
@@ -96,14 +96,14 @@ pub returns-in-None : goal.returns-in-None
 returns-in-None g c =
     let study = c.args.self.now in
     let kind = g.T.Time.kind in
-    let none = c.in-ok-check-seek.ensures in
+    let none = c.in_ok-check_seek.ensures in
     let present = seek_present _ _ _ _ _ none in
     let bit = seek_bit _ _ _ _ _ none in
-    let uncovered = covers_read kind study c.args.line c.args.value c.args.bound _ _ _ present bit c.index-ceiling.ensures c.is-covered.ensures c.if-is-covered.false in
-    let ends = looked_at kind _ study.lines.items c.deref.ensures.value (take study.inputs study.ties) c.args.line (is_one c.args.value) c.args.bound c.look-for-looked.new.setting c.look-for-looked.result.found c.look-for-looked.result.looks c.look-for-looked.ensures in
+    let uncovered = covers_read kind study c.args.line c.args.value c.args.bound _ _ _ present bit c.index-ceiling.ensures c.is_covered.ensures c.if-is_covered.false in
+    let ends = looked_at kind _ study.lines.items c.deref.ensures.value (take study.inputs study.ties) c.args.line (is_one c.args.value) c.args.bound c.look_for-looked.new.setting c.look_for-looked.result.found c.look_for-looked.result.looks c.look_for-looked.ensures in
     let shows = nothing_of kind study.lines.items (take study.inputs study.ties) c.args.line _ _ _ _ ends c.in-None.is in
     record {
-      promise = subst (Promises kind study _ (seek c.args.line c.args.value c.args.bound c.args.vector.now c.args.work.now)) (told_nothing c.args.vector.now c.look-for-looked.new.work (sym ends.looks_are))
-          (accepted_nothing kind g.met.T.Time.lawful study _ c.args.line c.args.value c.args.bound c.args.vector.now c.args.work.now c.look-for-looked.new.work none (omega arith) refl uncovered shows refl);
+      promise = subst (Promises kind study _ (seek c.args.line c.args.value c.args.bound c.args.vector.now c.args.work.now)) (told_nothing c.args.vector.now c.look_for-looked.new.work (sym ends.looks_are))
+          (accepted_nothing kind g.met.T.Time.lawful study _ c.args.line c.args.value c.args.bound c.args.vector.now c.args.work.now c.look_for-looked.new.work none (omega arith) refl uncovered shows refl);
       keeps = keeps_recorded study _ _ c.args.line c.args.value c.args.bound (omega arith) bit refl;
     }

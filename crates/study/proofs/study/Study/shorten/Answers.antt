@@ -12,39 +12,44 @@ use Rattle.study.proofs.Places.{lawful_with}
 use Rattle.study.proofs.Stepping.{unchanged_self, keeps_refused, refused_change, accepted_shorten, keeps_ceilings}
 use Rattle.study.proofs.study.Study.shorten.Goals as goal
 
-pub returns-in-err-check-shorten : goal.returns-in-err-check-shorten
-returns-in-err-check-shorten g c =
-    let p = err_from_is_err_and c.from-residual.result c.from-residual.ensures.1 in
+pub returns-in_err-check_shorten : goal.returns-in_err-check_shorten
+returns-in_err-check_shorten g c =
+    let p = err_from_is_err_and c.from_residual.result c.from_residual.ensures.1 in
     let study = c.args.self.now in
     rw (p.1, p.2)
     (record {
-      promise = refused_change g.T.Time.kind g.met.T.Time.lawful study study (shorten c.args.line c.args.delay) _ (λ past. Answers.to_shorten) c.in-err-check-shorten.ensures (unchanged_self study);
+      promise = refused_change g.T.Time.kind g.met.T.Time.lawful study study (shorten c.args.line c.args.delay) _ (λ past. Answers.to_shorten) c.in_err-check_shorten.ensures (unchanged_self study);
       keeps = keeps_refused study study _ (unchanged_self study);
     })
 
-pub index-mut-requires : goal.index-mut-requires
-index-mut-requires g c = omega (arith, shorten_present _ _ _ c.in-ok-check-shorten.ensures)
+pub index_mut-requires : goal.index_mut-requires
+index_mut-requires g c = omega (arith, shorten_present _ _ _ c.in_ok-check_shorten.ensures)
 
-pub invariant-of-self : goal.invariant-of-self
-invariant-of-self g c =
+pub invariant_of-self : goal.invariant_of-self
+invariant_of-self g c =
     let study = c.args.self.now in
     let line = c.args.line in
     let delay = c.args.delay in
-    let none = c.in-ok-check-shorten.ensures in
-    let seen = get_or_read_under _ _ _ _ no_line c.index-mut.ensures.value (shorten_present _ _ _ none) refl in
-    let put : set study.lines.items line (record { driver = c.index-mut.result.now.driver; delay = delay }) ≡ with_delay study.lines.items line delay = rw seen in (
-      subst (λ (lines : List Line). ∥ Lawful lines ∥₁) (sym put) (lawful_with study.lines.items line delay (shorten_fits _ _ _ none) study.lawful),
-      (study.counted ∙ sym (ap inputs put ∙ inputs_delay study.lines.items line delay), search rules),
-    )
+    let none = c.in_ok-check_shorten.ensures in
+    let seen = get_or_read_under _ _ _ _ no_line c.index_mut.ensures.value (shorten_present _ _ _ none) refl in
+    let put : set study.lines.items line (record { driver = c.index_mut.result.now.driver; delay = delay }) ≡ with_delay study.lines.items line delay = rw seen in
+    record {
+      lawful = subst (λ (lines : List Line). ∥ Lawful lines ∥₁) (sym put) (lawful_with study.lines.items line delay (shorten_fits _ _ _ none) study.lawful);
+      counted = study.counted ∙ sym (ap inputs put ∙ inputs_delay study.lines.items line delay);
+      few = search rules;
+      most = search rules;
+      whole = search rules;
+      room = search rules;
+    }
 
 pub returns : goal.returns
 returns g c =
     let study = c.args.self.now in
     let line = c.args.line in
     let delay = c.args.delay in
-    let none = c.in-ok-check-shorten.ensures in
-    let seen = get_or_read_under _ _ _ _ no_line c.index-mut.ensures.value (shorten_present _ _ _ none) refl in
-    let put : set study.lines.items line (record { driver = c.index-mut.result.now.driver; delay = delay }) ≡ with_delay study.lines.items line delay = rw seen in
+    let none = c.in_ok-check_shorten.ensures in
+    let seen = get_or_read_under _ _ _ _ no_line c.index_mut.ensures.value (shorten_present _ _ _ none) refl in
+    let put : set study.lines.items line (record { driver = c.index_mut.result.now.driver; delay = delay }) ≡ with_delay study.lines.items line delay = rw seen in
     let changed = ap (λ (lines : List Line). record { lines = lines; ties = take study.inputs study.ties }) put in
     record {
       promise = accepted_shorten g.T.Time.kind g.met.T.Time.lawful study _ line delay tt g.met.T.Time.longer none changed refl;
