@@ -27,12 +27,17 @@ mod tests {
     fn check_refused(
         rt: &impl Abort,
         heap: Global,
+        what: &str,
         sheet: &[u8],
         number: u8,
         place: usize,
     ) -> Result<(), Fail> {
         let mut draft = Draft::new(heap)?;
-        assert_eq!(rt; read(heap, &mut draft, sheet)?, Some((number, place)));
+        assert_eq!(rt;
+            read(heap, &mut draft, sheet)?,
+            Some((number, place)),
+            "{what}"
+        );
         assert_eq!(rt; draft.line_named(b"old"), None);
         assert_eq!(rt; draft.line_named(b"a"), None);
         Ok(())
@@ -41,13 +46,39 @@ mod tests {
     #[test]
     fn refusals(rt: HostRuntime) -> Result<(), Fail> {
         let heap = rt.alloc();
-        check_refused(&rt, heap, b"", 9, 0).note("no input")?;
-        check_refused(&rt, heap, b"(input a 0)\n(line x (and 1 a b))\n", 3, 29).note("no line b")?;
-        check_refused(&rt, heap, b"(input a 0)\n(line x (mux 1 a x a))\n", 3, 29).note("own form")?;
-        check_refused(&rt, heap, b"(input a 0)\n(line x (and 1 a a))\n", 4, 20).note(
-            "no cell and",
+        check_refused(&rt, heap, "no input", b"", 9, 0)?;
+        check_refused(
+            &rt,
+            heap,
+            "no line b",
+            b"(input a 0)\n(line x (and 1 a b))\n",
+            3,
+            29,
         )?;
-        check_refused(&rt, heap, b"(input a 0)\n(line a (mux 1 a a a))\n", 2, 18).note("name taken")
+        check_refused(
+            &rt,
+            heap,
+            "own form",
+            b"(input a 0)\n(line x (mux 1 a x a))\n",
+            3,
+            29,
+        )?;
+        check_refused(
+            &rt,
+            heap,
+            "no cell and",
+            b"(input a 0)\n(line x (and 1 a a))\n",
+            4,
+            20,
+        )?;
+        check_refused(
+            &rt,
+            heap,
+            "name taken",
+            b"(input a 0)\n(line a (mux 1 a a a))\n",
+            2,
+            18,
+        )
     }
 
     // Lines are numbered in the order of the closing brackets; the form's name is the outer cell's.
@@ -78,6 +109,6 @@ mod tests {
         assert_eq!(rt; draft.line_named(b"x"), Some(8));
         let nine =
             b"(input a 0)\n(line x (maj 0 a a (maj 0 a a (maj 0 a a (maj 0 a a (maj 0 a a (maj 0 a a (maj 0 a a (maj 0 a a (maj 0 a a a))))))))))\n";
-        check_refused(&rt, heap, nine, 7, 108)
+        check_refused(&rt, heap, "nine deep", nine, 7, 108)
     }
 }

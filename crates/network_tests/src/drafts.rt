@@ -160,7 +160,7 @@ fn sealing(rt: HostRuntime) -> Result<(), Fail> {
     assert!(rt; network.name_of(3).is_none());
     match network.name_of(2) {
         Some(name) => {
-            assert!(rt; name.as_bytes() == b"out");
+            assert!(rt; name.as_bytes() == b"out".as_slice());
             Ok(())
         },
         None => Err(Fail::new("line 2 has a name")),

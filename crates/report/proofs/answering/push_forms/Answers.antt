@@ -20,30 +20,30 @@ nothing_wrong lines ceilings room calls n l d r k (few_replies few) = omega arit
 pub unreachable-requires : goal.unreachable-requires
 unreachable-requires c =
     let network = c.args.network in
-    let plan = c.ask-all.new.self in
+    let plan = c.ask_all.new.self in
     nothing_wrong _ _ _ _ _ (omega (arith, network.sizes.1, network.lines.ok.0)) c.requires.doubled c.requires.replied (omega (arith, plan.shared, plan.calls.ok.0)) c.in-Err.ensures.fits
 
-pub push-replies-requires : goal.push-replies-requires
-push-replies-requires c =
+pub push_replies-requires : goal.push_replies-requires
+push_replies-requires c =
     let network = c.args.network in
-    let plan = c.ask-all.new.self in
+    let plan = c.ask_all.new.self in
     let replies = c.in-Ok.replies in
-    let even = replies_beside network plan (map told (vec_items replies)) c.ask-all.ensures c.in-Ok.ensures.1 ∙ length-map (vec_items replies) told in
+    let even = replies_beside network plan (map told (vec_items replies)) c.ask_all.ensures c.in-Ok.ensures.1 ∙ length-map (vec_items replies) told in
     record {
       room = omega (arith, c.requires.enough, plan.shared, plan.beside, plan.names.ok.0, replies.ok.0, even);
-      few = omega (arith, c.input-count-inputs.ensures, network.counted, network.sizes.2);
+      few = omega (arith, c.input_count-inputs.ensures, network.counted, network.sizes.2);
       beside = ap length c.deref.ensures.value ∙ even ∙ sym replies.ok.0;
     }
 
 pub returns : goal.returns
 returns c =
     let network = c.args.network in
-    let plan = c.ask-all.new.self in
+    let plan = c.ask_all.new.self in
     let replies = map told (vec_items c.in-Ok.replies) in
-    let reaches = plan_reaches network plan replies c.ask-all.ensures c.in-Ok.ensures.1 in
-    let names = ap (λ l. map bytes_of l) c.deref.ensures.value ∙ c.ask-all.ensures.names in
+    let reaches = plan_reaches network plan replies c.ask_all.ensures c.in-Ok.ensures.1 in
+    let names = ap (λ l. map bytes_of l) c.deref.ensures.value ∙ c.ask_all.ensures.names in
     record {
       text = told_forms (inputs (vec_items network.lines)) (map (λ form. form.name) (line_forms (sealed network))) replies;
       printed = reaches_printed (vec_items network.lines) (line_forms (sealed network)) replies reaches;
-      added = c.push-replies.ensures ∙ (λ i. vec_items c.args.out.now ++ told_forms (c.input-count-inputs.ensures i) (names i) replies);
+      added = c.push_replies.ensures ∙ (λ i. vec_items c.args.out.now ++ told_forms (c.input_count-inputs.ensures i) (names i) replies);
     }

@@ -18,11 +18,11 @@ returns-in-Ok c =
     let vector = c.in-Reached.vector in
     let few : c.min-shown.result - 0 ≡ min c.args.inputs vector.len = omega (arith, c.min-shown.ensures, c.len.ensures) in
     let shown = ap (λ k. take k c.deref.result.now) few ∙ ap (λ l. take (min c.args.inputs vector.len) l) c.deref.ensures.value ∙ take_min c.args.inputs vector.len vector.items (sym vector.ok.0) in
-    let text = c.push-worst.ensures.items ∙ (λ i. vec_items c.args.out.now ++ worst_text (c.as-bytes.ensures i) c.in-Ok.greatest.time.ticks (bits (shown i))) in
+    let text = c.push_worst.ensures.items ∙ (λ i. vec_items c.args.out.now ++ worst_text (c.as_bytes.ensures i) c.in-Ok.greatest.time.ticks (bits (shown i))) in
     let name = bytes_of c.args.name in
     let is_told = ap (λ r. told_form c.args.inputs name (told r)) c.in-Reached.is ∙ ap (λ o. told_form c.args.inputs name (told_worst o (vec_items vector) (vec_items c.in-Reached.work))) c.in-Ok.is in
     record {
       items = text ∙ ap (λ v. vec_items c.args.out.now ++ v) (sym is_told);
-      len = c.push-worst.ensures.len;
-      capacity = c.push-worst.ensures.capacity;
+      len = c.push_worst.ensures.len;
+      capacity = c.push_worst.ensures.capacity;
     }

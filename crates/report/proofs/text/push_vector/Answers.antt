@@ -4,8 +4,8 @@ use Rattle.turns.specs.Plain.{is_one, bits}
 use Rattle.report.specs.Texts.{digit_of, vector_text}
 use Rattle.report.proofs.text.push_vector.Goals as goal
 
-pub push-reserved-requires : goal.push-reserved-requires
-push-reserved-requires c = omega (arith, c.requires, c.loop-b.invariant.0, c.loop-b.invariant.3, c.loop-b-test.true)
+pub push_reserved-requires : goal.push_reserved-requires
+push_reserved-requires c = omega (arith, c.requires, c.loop-b.invariant.0, c.loop-b.invariant.3, c.loop-b-test.true)
 
 pub loop-b-preserved : goal.loop-b-preserved
 loop-b-preserved c =
@@ -14,10 +14,10 @@ loop-b-preserved c =
     let i = c.loop-b.b-index in
     let b = get_or vector i 0 in
     let more : vector_text (bits (take (i + 1) vector)) ≡ vector_text (bits (take i vector)) ++ (digit_of (is_one b) ∷ []) = ap (λ v. vector_text (bits v)) (take_more vector i 0 c.loop-b-test.true) ∙ ap vector_text (map_push is_one (take i vector) b) ∙ map_push digit_of (bits (take i vector)) (is_one b) in (
-      omega (arith, c.push-reserved.ensures.len, c.loop-b.invariant.0),
+      omega (arith, c.push_reserved.ensures.len, c.loop-b.invariant.0),
       omega arith,
-      c.push-reserved.ensures.items ∙ (λ j. c.loop-b.invariant.2 j ++ (c.digit_of.ensures j ∷ [])) ∙ append_assoc out _ _ ∙ ap (λ v. out ++ v) (sym more),
-      c.push-reserved.ensures.capacity ∙ c.loop-b.invariant.3,
+      c.push_reserved.ensures.items ∙ (λ j. c.loop-b.invariant.2 j ++ (c.digit_of.ensures j ∷ [])) ∙ append_assoc out _ _ ∙ ap (λ v. out ++ v) (sym more),
+      c.push_reserved.ensures.capacity ∙ c.loop-b.invariant.3,
     )
 
 pub returns : goal.returns

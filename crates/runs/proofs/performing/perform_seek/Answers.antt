@@ -7,8 +7,8 @@ pub returns : goal.returns
 returns g c =
     record {
       promise = seek_moved g.T.Time.kind _ _ _ _ _ _ _ _ _ _
-          c.deref-mut.ensures.value (with_items_is c.args.vector c.seek-outcome.new.vector (omega arith))
-          c.deref-mut-2.ensures.value (with_items_is c.args.work c.seek-outcome.new.work (omega arith))
+          c.deref_mut.ensures.value (with_items_is c.args.vector c.seek-outcome.new.vector (omega arith))
+          c.deref_mut-2.ensures.value (with_items_is c.args.work c.seek-outcome.new.work (omega arith))
           _ _ _ _ c.seek-outcome.ensures.promise;
       refused = λ e. c.seek-outcome.ensures.keeps.refused e;
     }

@@ -14,12 +14,12 @@ pub returns : goal.returns
 returns g c =
     let blank = nil_from_length (vec_items c.args.self.text) (sym c.args.self.text.ok.0 ∙ c.args.self.blank) in
     let Here : List ℕ → Type 0 = λ text. Answered (g.F.Family.assigns c.args.family.now) c.args.sheet.now text in
-    elim c.match-read-sheet.branch [
+    elim c.match-read_sheet.branch [
       | in-Err w ↦
-          let text = w.push-refused.ensures.items ∙ (λ i. blank i ++ refused_text (w.number.ensures i) (w.place.ensures i)) in
+          let text = w.push_refused.ensures.items ∙ (λ i. blank i ++ refused_text (w.number.ensures i) (w.place.ensures i)) in
           subst Here (sym (ap vec_items w.text-is ∙ text)) (refused_so w.in-Err.ensures.read.0)
       | in-Ok w ↦
-          let forms = w.push-forms.ensures in
+          let forms = w.push_forms.ensures in
           let text = forms.added ∙ ap (λ l. l ++ forms.text) blank in
           let printed = subst (λ s. Printed s.lines (line_forms s) forms.text) w.seal.ensures forms.printed in
           subst Here (sym (ap vec_items w.text-is ∙ text)) (drawn_so w.in-Ok.ensures.read printed)

@@ -12,6 +12,6 @@ returns c =
       work = vec_items buffers.work;
       wide = sym buffers.vector.ok.0 ∙ buffers.wide;
       deep = sym buffers.work.ok.0 ∙ buffers.deep;
-      asks = ap (map asked) c.push-reserved.ensures.items ∙ map_push asked (vec_items c.args.self.now.calls) _;
-      names = ap (map bytes_of) c.push-reserved-in-Some.ensures.items ∙ map_push bytes_of (vec_items c.args.self.now.names) _;
+      asks = ap (map asked) c.push_reserved.ensures.items ∙ map_push asked (vec_items c.args.self.now.calls) _;
+      names = ap (map bytes_of) c.push_reserved-in-Some.ensures.items ∙ map_push bytes_of (vec_items c.args.self.now.names) _;
     }
