@@ -21,7 +21,7 @@ pub fn names_in(rt: &HostRuntime, folder: &str, ending: &str) -> anyhow::Result<
             names.push(String::from_str(heap, name)?)?;
         }
     }
-    names.sort();
+    names.sort()?;
     Ok(names)
 }
 
