@@ -2,9 +2,8 @@
 --     sheet_s, sheet_f     two sheets, by their forms
 --     Figure               what is told of a sheet, or of a cell
 --     right figure         whether it is so, by the definitions of drawing, settling, deciding and searching
-use Rattle.std.specs.Prelude.{◌≡◌, ℕ, Bool, true, false, ◌&&◌, List, [], ◌∷◌, length, replicate, Some, None, codes, Option, ◌==◌, slice_index}
+use Rattle.std.specs.Prelude.{◌≡◌, ℕ, Bool, true, false, ◌&&◌, List, [], ◌∷◌, replicate, Some, None, codes, Option, ◌==◌, slice_index}
 use Rattle.std.specs.Bool.{beq}
-use Rattle.times.specs.declared.staged.Staged.{Staged}
 use Rattle.times.specs.declared.ticks.Ticks.{Ticks}
 use Rattle.times.specs.Kinds.{ticks_kind, staged_kind}
 use Rattle.cells.specs.Deciding.{decide}

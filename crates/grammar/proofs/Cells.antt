@@ -1,16 +1,16 @@
 -- What the readers of a cell, a pin and pins come to, from what each call in them read. Assumes nothing.
-use Rattle.std.proofs.Common.{◌≡◌, ℕ, zero, suc, ◌+◌, ◌-◌, ◌<◌, ◌≤◌, max, true, false, cond, eqb, leb, ◌⊎◌, List, [], ◌∷◌, ◌++◌, length, drop, Some, None, sym, refl, ap, ◌∙◌, subst, inl, inr, append_assoc, arith, length-append, length-drop}
+use Rattle.std.proofs.Common.{◌≡◌, ℕ, zero, suc, ◌+◌, ◌-◌, ◌<◌, ◌≤◌, true, false, cond, eqb, leb, List, [], ◌∷◌, ◌++◌, length, Some, sym, refl, ap, ◌∙◌, subst, inl, inr, append_assoc, arith, length-append, length-drop}
 use borrow.Author.Tests.{lt-leb}
-use Rattle.sheets.specs.Sheet.{Name, CellWord, Delay, Pins, pin_count, pins_depth, LawfulPins, LawfulCell, pins_text, cell_text}
-use Rattle.sheets.specs.Words.{SheetWord, opens_cell, closes, around, pins_place, pins_words, cell_words}
-use Rattle.sheets.specs.Recogniser.{Item, Outcome, step, open_brackets, outcome, cell_rest, may_end}
-use Rattle.sheets.proofs.Complete.{goes, taken, left, cell_run}
+use Rattle.sheets.specs.Sheet.{Name, CellWord, Delay, Pins, pin_count, pins_text, cell_text}
+use Rattle.sheets.specs.Words.{SheetWord, opens_cell, closes, pins_place, pins_words, cell_words}
+use Rattle.sheets.specs.Recogniser.{Item, Outcome, step, open_brackets, outcome, cell_rest}
+use Rattle.sheets.proofs.Complete.{goes, left, cell_run}
 use Rattle.names.specs.Names.{letter}
 use Rattle.grammar.specs.declared.fault.GrammarFault.{GrammarFault}
 use Rattle.grammar.specs.declared.fault.GrammarFault.TheVariants.{Broken, TooDeep}
-use Rattle.grammar.specs.Readings.{At, rest, Took, NextIs, out, Ends, NotHere, Stops, Fails, WordRead, HeadRead, CellRead, PinRead, PinsRead}
+use Rattle.grammar.specs.Readings.{At, rest, Took, NextIs, out, NotHere, Stops, Fails, WordRead, HeadRead, CellRead, PinRead, PinsRead}
 use Rattle.grammar.proofs.Fronts.{broken_end}
-use Rattle.grammar.proofs.Roads.{Road, road_none, road_on, took_then, took_as, step_on, byte_on, stuck, stuck_on, other_byte, broken_there, ends_as}
+use Rattle.grammar.proofs.Roads.{Road, road_on, took_then, took_as, step_on, byte_on, stuck, stuck_on, other_byte, broken_there, ends_as}
 
 -- what may follow an item, where there is room for so many cells in one another
 abbrev pub Fit : ℕ → List Item → Type 0

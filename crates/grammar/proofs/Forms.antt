@@ -1,17 +1,17 @@
 -- What the readers of a form and of the sheet come to. Assumes nothing.
-use Rattle.std.proofs.Common.{◌≡◌, ℕ, zero, suc, ◌+◌, ◌-◌, ◌<◌, ◌≤◌, max, Bool, true, false, cond, eqb, leb, List, [], ◌∷◌, ◌++◌, length, drop, Some, None, codes, sym, refl, ap, ◌∙◌, subst, append_assoc, append-nil, arith, length-append, length-drop, eqb-true}
-use Rattle.sheets.specs.Sheet.{max_sheet, max_depth, Name, Delay, Pins, Form, LawfulForm, LawfulForms, form_depth, sheet_depth, form_text, sheet_text, cell_text, Broken, TooDeep}
-use Rattle.sheets.specs.Verdicts.{Verdict, Judged}
-use Rattle.sheets.specs.Words.{SheetWord, closes, cell_words, body_words, form_words, sheet_words}
-use Rattle.sheets.specs.Recogniser.{Item, Outcome, step, open_brackets, outcome, may_end, most_open, bytes_then}
+use Rattle.std.proofs.Common.{◌≡◌, ℕ, suc, ◌+◌, ◌-◌, ◌<◌, ◌≤◌, Bool, true, false, cond, eqb, List, [], ◌∷◌, ◌++◌, length, Some, codes, sym, refl, ap, ◌∙◌, subst, append_assoc, append-nil, arith, length-append, length-drop, eqb-true}
+use Rattle.sheets.specs.Sheet.{max_sheet, max_depth, Name, Delay, Form, LawfulForm, LawfulForms, form_depth, sheet_depth, form_text, sheet_text, cell_text, Broken, TooDeep}
+use Rattle.sheets.specs.Verdicts.{Judged}
+use Rattle.sheets.specs.Words.{SheetWord, closes, cell_words, form_words, sheet_words}
+use Rattle.sheets.specs.Recogniser.{Item, step, open_brackets, outcome, most_open, bytes_then}
 use Rattle.sheets.proofs.Complete.{goes, taken, left, forms_run}
 use Rattle.sheets.proofs.Verdict.{broken_verdict, deep_verdict}
 use Rattle.grammar.specs.declared.fault.GrammarFault.{GrammarFault}
 use Rattle.grammar.specs.declared.fault.GrammarFault.TheVariants
 use Rattle.grammar.specs.Faults.{verdict}
 use Rattle.grammar.specs.Readings.{At, rest, Took, SecondIs, out, Ends, Stops, WordRead, CellRead, EndRead, input_items, line_items, end_items, NoForms, FormRead, FormsRead, AllRead}
-use Rattle.grammar.proofs.Fronts.{broken_here, broken_end}
-use Rattle.grammar.proofs.Roads.{Road, took_then, took_as, took_none, ends_as}
+use Rattle.grammar.proofs.Fronts.{broken_end}
+use Rattle.grammar.proofs.Roads.{took_then, took_as, took_none, ends_as}
 
 -- A form, from what its parts read.
 

@@ -1,11 +1,11 @@
 -- How readings follow one another: what was read, and what the recogniser then still has to read. Assumes nothing.
-use Rattle.std.proofs.Common.{◌≡◌, ℕ, zero, suc, ◌+◌, ◌-◌, ◌<◌, ◌≤◌, Bool, true, false, cond, eqb, leb, List, [], ◌∷◌, ◌++◌, length, get_or, take, drop, IsErrAnd, Some, None, Ok, Err, Option, Result, sym, refl, ap, ◌∙◌, subst, append_assoc, append-nil, arith, length-append, length-drop, take-append-drop, eq-eqb, eqb-true, MatchResult}
+use Rattle.std.proofs.Common.{◌≡◌, ℕ, ◌+◌, ◌-◌, ◌<◌, ◌≤◌, Bool, true, false, eqb, List, [], ◌∷◌, ◌++◌, length, get_or, take, drop, IsErrAnd, Some, None, Ok, Err, Result, sym, refl, ap, ◌∙◌, subst, append_assoc, append-nil, arith, length-append, length-drop, take-append-drop, eq-eqb, eqb-true, MatchResult}
 use Rattle.std.proofs.lemmas.List.{drop-drop, drop_more, drop_all, length-take-le}
 use Rattle.sheets.specs.Words.{SheetWord}
 use Rattle.sheets.specs.Recogniser.{Item, Outcome, step, open_brackets, outcome, may_end, bytes_then}
 use Rattle.sheets.proofs.Complete.{goes, taken, left, bytes_run}
 use Rattle.grammar.specs.declared.fault.GrammarFault.{GrammarFault}
-use Rattle.grammar.specs.declared.fault.GrammarFault.TheVariants.{Broken, TooDeep}
+use Rattle.grammar.specs.declared.fault.GrammarFault.TheVariants.{Broken}
 use Rattle.grammar.specs.Fronts.{WordFront, NoWordFront}
 use Rattle.grammar.specs.Readings.{At, rest, Took, NextIs, SecondIs, out, Ends, NotHere, WordRead}
 use Rattle.grammar.proofs.Fronts.{broken_here, broken_end}

@@ -1,7 +1,6 @@
 -- The refusals of a text: what is said of it, the number and the place. Assumes nothing.
 use Rattle.std.specs.Prelude.{ℕ}
 use Rattle.sheets.specs.Sheet.{max_sheet}
-use Rattle.sheets.specs.Verdicts
 use Rattle.sheets.specs.Verdicts.{Verdict}
 use Rattle.grammar.specs.declared.fault.GrammarFault.{GrammarFault}
 use Rattle.grammar.specs.declared.fault.GrammarFault.TheVariants.{TooLong, Broken, TooDeep}

@@ -1,6 +1,5 @@
 -- Where a reader of the code stands, and what the public reader answers. Assumes nothing.
-use Rattle.std.specs.Prelude.{◌≡◌, ℕ, List, [], vec_items}
-use Rattle.sheets.specs.Words.{SheetWord, sheet_words}
+use Rattle.std.specs.Prelude.{vec_items}
 use Rattle.grammar.specs.declared.reader.Reader.{Reader}
 use Rattle.grammar.specs.Readings.{At}
 use Rattle.grammar.specs.Views.{views}

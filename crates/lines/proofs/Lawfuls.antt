@@ -1,18 +1,18 @@
 -- Laws of lawful lines: there is one proof of them at most; a line by its number; one line more; another delay. Assumes nothing.
 use mathlib.Core.List.{List, [], ◌∷◌, ◌++◌}
 use mathlib.Core.Path.{◌≡◌, refl, sym, ap, subst, ◌∙◌}
-use mathlib.Core.Logic.{∥∥₁_elim, ∥∥₁_map}
+use mathlib.Core.Logic.{∥∥₁_elim}
 use Prim.Native.Nat.{ℕ, zero, suc, ◌+◌, ◌≤◌, ◌<◌}
 use native.Mathlib.Bridge.{le_prop}
 use native.Mathlib.Nat.{add-zero, zero-add, add-suc, suc-add, add_assoc, le_of_suc-le-suc}
 use native.Mathlib.Omega.{arith}
-use lib.ListN.{length, get_or, set}
+use lib.ListN.{length, get_or}
 use Rattle.lines.specs.declared.line.Cell.{Cell}
 use Rattle.lines.specs.declared.line.Driver.{Driver}
 use Rattle.lines.specs.declared.line.Driver.TheVariants.{Input, Output}
 use Rattle.lines.specs.declared.line.Line.{Line}
 use Rattle.lines.specs.Limits.{max_delay}
-use Rattle.lines.specs.Lines.{no_line, line_at, input_count, inputs, LawfulCell, LawfulDriver, LawfulLine, LawfulFrom, Lawful}
+use Rattle.lines.specs.Lines.{input_count, inputs, LawfulCell, LawfulDriver, LawfulLine, LawfulFrom, Lawful}
 
 -- One proof at most.
 

@@ -1,13 +1,13 @@
 -- Plans made one line after another. Assumes nothing.
-use Rattle.std.proofs.Common.{◌≡◌, ℕ, zero, suc, ◌+◌, ◌-◌, ◌<◌, ◌≤◌, List, [], ◌∷◌, ◌++◌, map, length, Some, None, vec_items, vec_len, Option, sym, refl, ap, ◌∙◌, subst, append_assoc, append-nil, arith}
+use Rattle.std.proofs.Common.{◌≡◌, ℕ, suc, List, [], ◌∷◌, ◌++◌, map, length, Some, None, vec_items, vec_len, Option, sym, refl, ap, ◌∙◌, subst, append-nil, arith}
 use Rattle.std.proofs.lemmas.List.{map_push, length-map}
 use Rattle.names.specs.Kept.{bytes_of}
 use Rattle.times.specs.declared.ticks.Ticks.{Ticks}
-use Rattle.turns.specs.Asked.{Asked, asked, worst}
+use Rattle.turns.specs.Asked.{Asked, asked}
 use Rattle.report.specs.declared.plan.Plan.{Plan}
 use Rattle.report.specs.Answers.{LineForm}
 use Rattle.report.specs.Plans.{AsksWorst, no_call, a_call}
-use Rattle.report.specs.Planned.{asked_in, names_in, named_one, OneMore, Adds, PlansFor}
+use Rattle.report.specs.Planned.{asked_in, named_one, OneMore, Adds, PlansFor}
 use Rattle.report.proofs.Running.{asks_push}
 
 abbrev name_of : LineForm → List ℕ

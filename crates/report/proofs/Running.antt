@@ -1,22 +1,20 @@
 -- A run of calls for the worst of line forms: what its replies tell. Assumes nothing.
-use Rattle.std.proofs.Common.{◌≡◌, ℕ, zero, suc, ◌+◌, ◌<◌, ◌≤◌, Bool, List, [], ◌∷◌, ◌++◌, map, length, Some, None, Ok, Err, Option, Result, sym, refl, ap, ◌∙◌, subst, append_assoc, append-nil, arith}
+use Rattle.std.proofs.Common.{◌≡◌, ℕ, ◌<◌, ◌≤◌, Bool, List, [], ◌∷◌, ◌++◌, length, None, Ok, Err, Option, Result, sym, refl, subst, arith}
 use Rattle.std.proofs.lemmas.List.{length-replicate}
 use Rattle.lines.specs.declared.line.Line.{Line}
 use Rattle.lines.specs.Limits.{max_inputs, max_lines}
 use Rattle.lines.specs.Lines.{inputs}
-use Rattle.network.specs.Least.{Least, NothingWrong}
 use Rattle.settling.specs.declared.latest.Latest.{Latest}
 use Rattle.times.specs.declared.ticks.Ticks.{Ticks}
 use Rattle.times.specs.Kinds.{ticks_kind}
-use Rattle.search.specs.Search.{Vector}
 use Rattle.turns.specs.declared.answers.Greatest.{Greatest}
 use Rattle.turns.specs.declared.fault.StudyFault.{StudyFault}
 use Rattle.turns.specs.Asked.{Asked, Told, worst, told_worst}
-use Rattle.turns.specs.Answers.{Past, Turn, Answers, to_worst, WorstAnswer}
-use Rattle.turns.specs.Plain.{Plain, opened, written}
-use Rattle.turns.specs.Refusals.{Wrong, WorstWrong, number}
+use Rattle.turns.specs.Answers.{Past, to_worst, WorstAnswer}
+use Rattle.turns.specs.Plain.{Plain, opened}
+use Rattle.turns.specs.Refusals.{WorstWrong, number}
 use Rattle.turns.specs.Runs.{After, Run, at_first, refused, accepted, calls_in, ended, goes_on}
-use Rattle.report.specs.Answers.{LineForm, IsWorst}
+use Rattle.report.specs.Answers.{LineForm}
 use Rattle.report.specs.Plans.{AsksWorst, no_call, a_call, Reaches, no_reply, a_reply}
 
 -- calls for the worst alone

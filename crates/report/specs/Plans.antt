@@ -1,7 +1,7 @@
 -- The run that answers a sheet: one call for each line form, and what its replies tell. Assumes nothing.
 --     AsksWorst forms calls       a worst for each form, with places for all inputs and lines
 --     Reaches lines forms replies each reply shows its form's worst vector
-use Rattle.std.specs.Prelude.{◌≡◌, ℕ, List, [], ◌∷◌, ◌++◌, length, Ok}
+use Rattle.std.specs.Prelude.{◌≡◌, ℕ, List, [], ◌∷◌, length, Ok}
 use Rattle.lines.specs.declared.line.Line.{Line}
 use Rattle.lines.specs.Limits.{max_inputs, max_lines}
 use Rattle.settling.specs.declared.latest.Latest.{Latest}

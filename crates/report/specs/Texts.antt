@@ -1,5 +1,5 @@
 -- The answers as text; 32 is a space, 41 a closing bracket, 10 the line feed. Assumes nothing.
-use Rattle.std.specs.Prelude.{ℕ, ◌+◌, Bool, cond, List, [], ◌∷◌, ◌++◌, map, codes, decimal}
+use Rattle.std.specs.Prelude.{ℕ, Bool, cond, List, [], ◌∷◌, ◌++◌, map, codes, decimal}
 use Rattle.search.specs.Search.{Vector}
 
 -- (refused NUMBER PLACE), on a line of its own

@@ -1,5 +1,5 @@
 -- The search shows the first vector that passes, or that there is none; and how many looks it takes. Assumes nothing.
-use Rattle.std.proofs.Common.{◌≡◌, ℕ, zero, suc, ◌+◌, ◌-◌, ◌*◌, ◌^◌, ◌≤◌, Bool, true, false, ◌⊎◌, length, Some, None, Option, refl, ap, ◌∙◌, inl, inr, ⊎_elim, add-one, arith}
+use Rattle.std.proofs.Common.{◌≡◌, ℕ, zero, suc, ◌+◌, ◌*◌, ◌^◌, ◌≤◌, Bool, true, false, length, Some, None, Option, refl, ap, ◌∙◌, inl, inr, ⊎_elim, add-one, arith}
 use Rattle.std.proofs.lemmas.Bool.{both_ways}
 use Rattle.search.specs.Search.{Vector, Setting, Agrees, Shows, Outcome, Test, undecided, decide, vector, last_look, zero_then_one, look, search_from, first_vector, Searched, SearchStands}
 use Rattle.search.proofs.Settings.{agrees_length, decide_length, whole_vector, vector_agrees, agrees_one, decide_undecided, agrees_decide, agrees_either, zero_precedes_one}

@@ -1,5 +1,5 @@
 -- The search one look at a time comes to what the search by continuations comes to. Assumes nothing.
-use Rattle.std.proofs.Common.{◌≡◌, ℕ, zero, suc, ◌+◌, ◌-◌, ◌<◌, ◌≤◌, Bool, true, false, ◌⊎◌, [], ◌∷◌, ◌++◌, length, take, drop, Some, None, Option, sym, refl, ap, ◌∙◌, subst, ⊎_elim, arith}
+use Rattle.std.proofs.Common.{◌≡◌, ℕ, zero, suc, ◌+◌, ◌-◌, ◌<◌, ◌≤◌, Bool, true, false, [], ◌∷◌, ◌++◌, length, take, drop, Some, None, Option, sym, refl, ap, ◌∙◌, subst, ⊎_elim, arith}
 use Rattle.std.proofs.lemmas.Bool.{cases_lt}
 use Rattle.search.specs.Search.{Vector, Setting, Outcome, undecided, decide, vector, last_look, zero_then_one, look, search_from, first_vector}
 use Rattle.search.specs.Turns.{after_input, raise, next_setting, Progress, go_on, look_at, turn, turns, Looking, TurnsStand, Over}

@@ -1,10 +1,9 @@
 -- The recogniser reads every sheet. Assumes nothing.
-use Rattle.std.proofs.Common.{◌≡◌, ℕ, zero, suc, ◌+◌, ◌≤◌, max, Bool, true, false, cond, eqb, leb, ◌⊎◌, List, [], ◌∷◌, ◌++◌, length, Some, None, codes, Option, sym, refl, ap, ◌∙◌, subst, inl, inr, ⊎_elim, append_assoc, append-nil, arith, eq-eqb, eqb-true, le-leb}
-use borrow.Author.Tests.{eqb-false}
+use Rattle.std.proofs.Common.{◌≡◌, ℕ, zero, suc, ◌+◌, ◌≤◌, Bool, true, false, cond, eqb, leb, List, [], ◌∷◌, ◌++◌, length, Some, None, codes, Option, sym, refl, ap, ◌∙◌, subst, inl, inr, append_assoc, append-nil, arith, eq-eqb, eqb-true, le-leb}
 use Rattle.names.specs.Names.{letter, digit, name_byte}
 use Rattle.sheets.proofs.Letters.{Starred, name_parts, word_parts}
-use Rattle.sheets.specs.Sheet.{Each, Name, CellWord, Delay, Pins, Form, pin_count, OneToFour, LawfulPins, LawfulCell, LawfulForm, LawfulForms, pins_text, cell_text, form_text, sheet_text, Sheet, Viable, pins_depth, form_depth, sheet_depth}
-use Rattle.sheets.specs.Recogniser.{Item, Outcome, step, after, bytes_then, cell_rest, open_brackets, outcome, may_end}
+use Rattle.sheets.specs.Sheet.{Each, Name, Delay, Pins, Form, pin_count, LawfulPins, LawfulCell, LawfulForm, LawfulForms, pins_text, cell_text, form_text, sheet_text, Viable, pins_depth, form_depth, sheet_depth}
+use Rattle.sheets.specs.Recogniser.{Item, step, after, bytes_then, cell_rest, open_brackets, outcome}
 
 pub taken : {A : Type 0} (t : Bool) (x y : A) → t ≡ true → cond t x y ≡ x
 taken t x y e = ap (λ (b : Bool). cond b x y) e

@@ -1,5 +1,5 @@
 -- What a state of the recogniser still admits, and that each admits something. Assumes nothing.
-use Rattle.std.proofs.Common.{◌≡◌, ℕ, zero, suc, ◌≤◌, ◌⊎◌, List, [], ◌∷◌, ◌++◌, length, Some, None, codes, Option, refl, inl, inr, arith}
+use Rattle.std.proofs.Common.{◌≡◌, ℕ, suc, ◌≤◌, ◌⊎◌, List, [], ◌∷◌, ◌++◌, length, Some, None, codes, Option, refl, inl, inr, arith}
 use Rattle.names.specs.Names.{digit, name_byte}
 use Rattle.sheets.proofs.Letters.{Starred}
 use Rattle.sheets.specs.Sheet.{Each, Name, Delay, Pins, Form, pin_count, LawfulPins, LawfulCell, LawfulForm, LawfulForms, pins_text, cell_text, form_text, sheet_text}

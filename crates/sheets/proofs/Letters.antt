@@ -1,6 +1,6 @@
 -- Names and cell words taken apart byte by byte, and put together. Assumes nothing.
-use Rattle.std.proofs.Common.{◌≡◌, ℕ, suc, ◌≤◌, Bool, true, false, cond, ◌&&◌, eqb, leb, ◌⊎◌, List, [], ◌∷◌, length, sym, refl, ap, ◌∙◌, inl, inr, arith, eq-eqb, eqb-true, le-leb, leb-true}
-use Rattle.names.specs.Names.{letter, name_byte, star, max_name, every, letter_first, starred, lawful_name, lawful_word}
+use Rattle.std.proofs.Common.{◌≡◌, ℕ, ◌≤◌, Bool, true, false, cond, ◌&&◌, leb, ◌⊎◌, List, [], ◌∷◌, length, sym, refl, ap, ◌∙◌, inl, inr, arith, eq-eqb, eqb-true, le-leb, leb-true}
+use Rattle.names.specs.Names.{letter, name_byte, star, max_name, every, letter_first, starred}
 use Rattle.sheets.specs.Sheet.{Name, CellWord, Each}
 
 -- a letter, and at most seven letters and digits

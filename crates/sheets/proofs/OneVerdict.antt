@@ -1,5 +1,5 @@
 -- A text has one verdict at most. Assumes nothing.
-use Rattle.std.proofs.Common.{◌≡◌, ℕ, ◌≤◌, List, sym, refl, ap, ◌∙◌, subst, arith}
+use Rattle.std.proofs.Common.{sym, refl, ap, ◌∙◌, subst, arith}
 use Rattle.sheets.specs.Sheet.{TooDeep}
 use Rattle.sheets.specs.Verdicts.{Verdict, Judged, OneVerdict}
 use Rattle.sheets.proofs.Verdict.{broken_not_sheet, broken_one, deep_one, not_both, deep_not_shallow}

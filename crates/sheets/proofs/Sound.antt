@@ -1,11 +1,11 @@
 -- A step of the recogniser keeps to the language. Assumes nothing.
-use Rattle.std.proofs.Common.{◌≡◌, ℕ, zero, suc, ◌≤◌, Bool, true, false, cond, eqb, ◌⊎◌, List, [], ◌∷◌, ◌++◌, length, Some, None, codes, Option, sym, refl, ap, ◌∙◌, subst, inl, inr, ⊎_elim, append_assoc, append-nil, arith, eqb-true}
+use Rattle.std.proofs.Common.{◌≡◌, ℕ, zero, suc, ◌≤◌, Bool, true, false, cond, eqb, ◌⊎◌, List, [], ◌∷◌, ◌++◌, Some, None, codes, Option, sym, refl, ap, ◌∙◌, subst, inl, inr, append_assoc, append-nil, arith, eqb-true}
 use borrow.Author.Tests.{eqb-false}
 use Rattle.names.specs.Names.{letter, digit, name_byte}
 use Rattle.sheets.proofs.Letters.{name_made, word_made}
-use Rattle.sheets.specs.Sheet.{Each, Name, Delay, Pins, Form, pin_count, OneToFour, LawfulPins, LawfulCell, LawfulForm, LawfulForms, pins_text, cell_text, form_text, sheet_text, Sheet, Viable}
+use Rattle.sheets.specs.Sheet.{Name, Pins, Form, pin_count, LawfulPins, pins_text, cell_text, form_text, sheet_text, Sheet, Viable}
 use Rattle.sheets.specs.Recogniser.{Item, step, after, bytes_then, cell_rest}
-use Rattle.sheets.proofs.Language.{IsCell, IsPins, Reads, Lang, LangO, some_end}
+use Rattle.sheets.proofs.Language.{IsCell, IsPins, Lang, LangO, some_end}
 
 by_test : (t : Bool) (x y : Option (List Item)) (xs : List ℕ) (Q : Type 0) → LangO (cond t x y) xs → (t ≡ true → LangO x xs → Q) → (t ≡ false → LangO y xs → Q) → Q
 by_test true x y xs Q h f g = f refl h

@@ -1,9 +1,8 @@
 -- A text has at most one reading as forms. Assumes nothing.
-use Rattle.std.proofs.Common.{◌≡◌, ℕ, ◌≤◌, Bool, true, false, ◌||◌, eqb, ◌⊎◌, List, [], ◌∷◌, ◌++◌, length, codes, sym, refl, ap, ◌∙◌, subst, inl, inr, append_assoc, arith, eq-eqb}
+use Rattle.std.proofs.Common.{◌≡◌, ℕ, Bool, true, false, ◌||◌, eqb, List, [], ◌∷◌, ◌++◌, sym, refl, ap, ◌∙◌, inl, inr, append_assoc, arith, eq-eqb}
 use Rattle.names.specs.Names.{letter, digit, name_byte}
 use Rattle.sheets.proofs.Letters.{Starred, name_parts, word_parts}
-use Rattle.sheets.specs.Sheet.{Each, Name, CellWord, Delay, Pins, Form, LawfulPins, LawfulCell, LawfulForm, LawfulForms, pins_text, cell_text, form_text, sheet_text}
-use Rattle.sheets.proofs.Complete.{pins_part}
+use Rattle.sheets.specs.Sheet.{Each, Name, Delay, Pins, Form, LawfulPins, LawfulCell, LawfulForm, LawfulForms, pins_text, cell_text, form_text, sheet_text}
 
 -- a byte of a name, a cell word or a delay
 abbrev word_byte : ℕ → Bool

@@ -1,8 +1,7 @@
 -- What the recogniser's outcome says of the text. Assumes nothing.
-use Rattle.std.proofs.Common.{◌≡◌, ℕ, zero, suc, pred, ◌+◌, ◌-◌, ◌<◌, ◌≤◌, Bool, true, false, cond, eqb, leb, ◌⊎◌, List, [], ◌∷◌, ◌++◌, length, take, drop, Some, None, codes, Option, sym, refl, ap, ◌∙◌, subst, inl, inr, append_assoc, append-nil, arith, length-append, take-append-drop, eq-eqb, eqb-true, leb-false, leb-true}
+use Rattle.std.proofs.Common.{◌≡◌, ℕ, zero, suc, pred, ◌-◌, ◌<◌, ◌≤◌, Bool, true, false, cond, eqb, leb, List, [], ◌∷◌, ◌++◌, length, take, drop, Some, None, codes, Option, sym, refl, ap, ◌∙◌, subst, inl, inr, append_assoc, append-nil, arith, length-append, take-append-drop, eqb-true, leb-false, leb-true}
 use Rattle.std.proofs.lemmas.List.{take-take, take_all}
 use Rattle.std.proofs.str.Laws.{order}
-use borrow.Author.Tests.{eqb-false}
 use Rattle.names.specs.Names.{letter, digit, name_byte}
 use Rattle.sheets.specs.Sheet.{Form, LawfulForms, sheet_depth, sheet_text, open_after, Sheet, Viable, NineDeep, Shallow, Broken, TooDeep}
 use Rattle.sheets.specs.Recogniser.{Item, Outcome, step, after, bytes_then, cell_rest, open_brackets, outcome, may_end}

@@ -1,5 +1,5 @@
 -- A recogniser of sheets, byte by byte. Its state is the list of what is still to be read. Assumes nothing.
-use Rattle.std.specs.Prelude.{◌≡◌, ℕ, zero, suc, Bool, true, false, cond, List, [], ◌∷◌, ◌++◌, length, Some, None, codes, Option, ◌==◌, nat_le}
+use Rattle.std.specs.Prelude.{ℕ, zero, suc, Bool, true, false, cond, List, [], ◌∷◌, length, Some, None, codes, Option, ◌==◌, nat_le}
 use Rattle.names.specs.Names.{letter, digit, name_byte}
 use Rattle.sheets.specs.Sheet.{max_depth}
 

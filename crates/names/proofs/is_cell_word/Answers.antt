@@ -1,4 +1,4 @@
-use Rattle.std.proofs.Common.{◌≡◌, ◌&&◌, length, get_or, drop, sym, ap, ◌∙◌, arith, rules, le-leb}
+use Rattle.std.proofs.Common.{◌≡◌, ◌&&◌, length, drop, sym, ap, ◌∙◌, arith, le-leb}
 use Rattle.names.proofs.Scan.{star_on, star_off, star_end}
 use Rattle.std.proofs.lemmas.List.{take_rest}
 use Rattle.names.specs.Names.{starred, letter_first}

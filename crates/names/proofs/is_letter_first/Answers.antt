@@ -1,4 +1,4 @@
-use Rattle.std.proofs.Common.{◌≡◌, sym, ◌∙◌, arith, rules}
+use Rattle.std.proofs.Common.{sym, ◌∙◌, arith, rules}
 use Rattle.names.proofs.Scan.{every_on, every_off, every_end, first_on}
 use Rattle.names.specs.Names.{name_byte}
 use Rattle.names.proofs.is_letter_first.Goals as goal

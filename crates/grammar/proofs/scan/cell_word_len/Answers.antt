@@ -1,6 +1,6 @@
-use Rattle.std.proofs.Common.{sym, inl, inr, arith, true-eqb, false-eqb}
+use Rattle.std.proofs.Common.{sym, inl, inr, arith}
 use Rattle.std.proofs.lemmas.List.{take_rest}
-use Rattle.grammar.proofs.Fronts.{name_no, name_yes, word_no, word_yes, delay_no, delay_zero, delay_more}
+use Rattle.grammar.proofs.Fronts.{word_no, word_yes}
 use Rattle.grammar.proofs.scan.cell_word_len.Goals as goal
 use Rattle.grammar.proofs.scan.cell_word_len.Goals.{then-n-s-via-then-n-s, then-n-s-via-else-n-s+then-not-is_letter}
 

@@ -1,6 +1,6 @@
 use Rattle.std.proofs.Common.{sym, inl, inr, arith, true-eqb, false-eqb}
 use Rattle.std.proofs.lemmas.List.{take_rest}
-use Rattle.grammar.proofs.Fronts.{name_no, name_yes, word_no, word_yes, delay_no, delay_zero, delay_more}
+use Rattle.grammar.proofs.Fronts.{delay_no, delay_zero, delay_more}
 use Rattle.grammar.proofs.scan.delay_len.Goals as goal
 use Rattle.grammar.proofs.scan.delay_len.Goals.{then-is_empty-via-then-is_empty, then-is_empty-via-else-is_empty+then-not-is_digit}
 

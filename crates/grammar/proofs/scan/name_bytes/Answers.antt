@@ -1,4 +1,4 @@
-use Rattle.std.proofs.Common.{sym, arith, rules, eq-eqb}
+use Rattle.std.proofs.Common.{sym, arith}
 use Rattle.grammar.proofs.Fronts.{each_more}
 use Rattle.grammar.proofs.scan.name_bytes.Goals as goal
 

@@ -1,5 +1,4 @@
 use Rattle.std.proofs.Common.{◌≡◌, ℕ, zero, suc, ◌-◌, min, List, [], ◌∷◌, ◌++◌, length, take, vec_items, sym, refl, ap, ◌∙◌, arith}
-use Rattle.std.proofs.lemmas.List.{take_all}
 use Rattle.names.specs.Kept.{bytes_of}
 use Rattle.turns.specs.Asked.{told, told_worst}
 use Rattle.turns.specs.Plain.{bits}

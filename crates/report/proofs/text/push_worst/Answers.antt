@@ -1,4 +1,4 @@
-use Rattle.std.proofs.Common.{◌≡◌, [], ◌∷◌, ◌++◌, length, codes, decimal, ap, ◌∙◌, append_assoc, arith}
+use Rattle.std.proofs.Common.{[], ◌∷◌, ◌++◌, decimal, ap, ◌∙◌, append_assoc, arith}
 use Rattle.turns.specs.Plain.{bits}
 use Rattle.report.specs.Texts.{vector_text}
 use Rattle.report.proofs.Digits.{few_digits}

@@ -1,10 +1,10 @@
-use Rattle.std.proofs.Common.{◌≡◌, ℕ, suc, ◌+◌, ◌-◌, ◌<◌, ◌≤◌, List, [], ◌∷◌, sym, refl, ap, ◌∙◌, subst, inr, arith}
+use Rattle.std.proofs.Common.{◌≡◌, suc, ◌+◌, ◌-◌, [], ◌∷◌, subst, inr, arith}
 use Rattle.std.proofs.lemmas.Result.{MatchResult-weaker}
-use Rattle.sheets.specs.Recogniser.{Item, open_brackets}
+use Rattle.sheets.specs.Recogniser.{Item}
 use Rattle.grammar.specs.Readers.{at}
-use Rattle.grammar.specs.Readings.{Took, Stops, PinsRead}
-use Rattle.grammar.proofs.Roads.{Road, break_cases, road_on, road_stop, byte_on, byte_stuck}
-use Rattle.grammar.proofs.Cells.{Fit, cell_unopened, cell_opened, cell_too_deep, pin_no_cell, pin_of_name, pin_no_name, road_pin, pins_end, pins_more, pins_full, pins_unspaced, pins_spaced, cell_read, cell_sized}
+use Rattle.grammar.specs.Readings.{Stops, PinsRead}
+use Rattle.grammar.proofs.Roads.{break_cases, road_on, road_stop, byte_on, byte_stuck}
+use Rattle.grammar.proofs.Cells.{cell_unopened, cell_opened, cell_too_deep, pin_no_cell, pin_of_name, pin_no_name, road_pin, pins_end, pins_more, pins_full, pins_unspaced, pins_spaced, cell_read, cell_sized}
 use Rattle.grammar.proofs.reader.Reader.+cell_pin_pins.Goals as goal
 
 -- A cell.

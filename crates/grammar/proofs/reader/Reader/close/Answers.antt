@@ -1,4 +1,4 @@
-use Rattle.std.proofs.Common.{◌≡◌, ◌+◌, ◌≤◌, [], ◌∷◌, ◌++◌, length, ap, ◌∙◌, arith, rules}
+use Rattle.std.proofs.Common.{◌+◌, ◌≤◌, [], ◌∷◌, ◌++◌, length, ap, ◌∙◌, arith, rules}
 use Rattle.sheets.specs.Words.{SheetWord}
 use Rattle.grammar.specs.Readers.{at}
 use Rattle.grammar.proofs.Roads.{took_next, next_part, next_there}

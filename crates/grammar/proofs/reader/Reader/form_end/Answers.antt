@@ -1,4 +1,4 @@
-use Rattle.std.proofs.Common.{eqb, List, [], ◌∷◌, refl, arith}
+use Rattle.std.proofs.Common.{eqb, ◌∷◌, refl, arith}
 use Rattle.std.proofs.lemmas.Result.{MatchResult-weaker}
 use Rattle.sheets.specs.Recogniser.{Item, step}
 use Rattle.sheets.proofs.Complete.{left}

@@ -1,4 +1,4 @@
-use Rattle.std.proofs.Common.{List, [], ◌∷◌, codes, arith}
+use Rattle.std.proofs.Common.{◌∷◌, codes, arith}
 use Rattle.std.proofs.lemmas.Result.{MatchResult-weaker}
 use Rattle.sheets.specs.Recogniser.{Item, bytes_then}
 use Rattle.grammar.specs.Readers.{at}

@@ -1,5 +1,4 @@
 use Rattle.std.proofs.Common.{sym, refl, arith}
-use Rattle.network.specs.Drafts.{sketch}
 use Rattle.std.proofs.lemmas.Result.{err_from_is_err_and}
 use Rattle.network.proofs.Refused.{slow_then, cell_no_table, cell_delay, cell_full, cell_pin, cell_fine}
 use Rattle.network.proofs.draft.Draft.add_labelled.Goals as goal

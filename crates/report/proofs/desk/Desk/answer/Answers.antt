@@ -1,6 +1,5 @@
-use Rattle.std.proofs.Common.{◌≡◌, ℕ, List, [], ◌++◌, vec_items, sym, ap, ◌∙◌, subst}
+use Rattle.std.proofs.Common.{ℕ, List, ◌++◌, vec_items, sym, ap, ◌∙◌, subst}
 use Rattle.std.proofs.lemmas.List.{nil_from_length}
-use Rattle.network.specs.Drafts.{sketch, sealed}
 use Rattle.report.specs.Answers.{Answered, refused_so, drawn_so, Printed, line_forms}
 use Rattle.report.specs.Texts.{refused_text}
 use Rattle.report.proofs.Sealing.{drawn_seals}
