@@ -7,7 +7,7 @@
     options: --limit S            seconds of CPU for one run (default 60)
              --program PATH       another program that reads a sheet and prints its answer
 
-Builds the program first (rt check kofunbi). A time is the least user time of three runs, of one where a run takes over a
+Builds the program first (rt run, in crates/kofunbi). A time is the least user time of three runs, of one where a run takes over a
 second; '-' is over the limit. Growth is the factor by which an input more lengthens the time, from one size of a family
 to the next; it is left out below 20 ms, where the clock is too coarse.
 """
@@ -200,8 +200,9 @@ def main():
         write_own(target)
         return
     if program is None:
-        subprocess.run(["rt", "check", "kofunbi"], cwd=ROOT, check=True, stdout=subprocess.DEVNULL)
-        program = os.path.join(ROOT, "target", "bin", "kofunbi")
+        crate = os.path.join(ROOT, "crates", "kofunbi")
+        subprocess.run(["rt", "run"], cwd=crate, check=True, stdin=subprocess.DEVNULL, stdout=subprocess.DEVNULL)
+        program = os.path.join(crate, "out", "kofunbi")
     if words:
         measure(words[0], [program], limit)
         return

@@ -1,13 +1,11 @@
 // The program: one sheet from standard input, its answer to standard output.
 #![tactic(auto)]
 
-use anyhow::anyhow;
 use families::pair::Pair;
 use gates::plain::Plain;
 use grammar::read::MAX_SHEET;
 use library::board::board;
 use report::desk::Desk;
-use std::env;
 use std::io::{Read, Write};
 
 // Standard input to its end; a longer input than a sheet can be is read only so far that it is seen to be longer.
@@ -28,16 +26,7 @@ fn read_input(rt: &HostRuntime) -> anyhow::Result<Vec<u8>> {
     Ok(sheet)
 }
 
-// Refuses arguments: whoever names a file would otherwise wait for an answer that waits for standard input.
-fn check_arguments(rt: &HostRuntime) -> anyhow::Result<()> {
-    if env::args(rt)?.count() > 1 {
-        return Err(anyhow!("no argument is taken: write kofunbi < SHEET"));
-    }
-    Ok(())
-}
-
 fn run(rt: &HostRuntime) -> anyhow::Result<()> {
-    check_arguments(rt)?;
     let sheet = read_input(rt)?;
     let family = Pair {
         first: Plain,
