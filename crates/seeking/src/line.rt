@@ -1,20 +1,13 @@
 // The latest times of one line under a setting.
-ghost use Rattle.std.specs.Prelude.{◌≡◌, ◌<◌, ◌≤◌, length, slice_index_or};
+ghost use Rattle.std.specs.Prelude.{◌≡◌, ◌<◌, ◌≤◌, length};
 ghost use Rattle.lines.specs.Lines.{Lawful, inputs};
 ghost use Rattle.seeking.specs.Seeking.{line_latest, latest_time, latest_of_both};
 
 use cells::order::later_of;
 use lines::line::Line;
 use settling::latest::{Latest, latest_times};
+use settling::places::read;
 use times::time::Time;
-
-// A read in place. Over any type of element its address is seen to fit, which is not reached at `Latest<T>`.
-fn read<X: Copy>(places: &[X], number: usize) -> X
-    requires { number < length places.now }
-    ensures { result ≡ slice_index_or places.now number result }
-{
-    places[number]
-}
 
 // A line's latest times under a setting; the work places are left free.
 fn latest_of<T: Time>(
