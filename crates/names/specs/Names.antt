@@ -1,7 +1,8 @@
 -- Names and cell words, by their bytes, and when two are the same. Assumes nothing.
 --     name        what a sheet calls a line
 --     cell word   what a sheet calls a sort of cell
-use Rattle.std.specs.Prelude.{ℕ, Bool, true, false, cond, ◌&&◌, ◌||◌, List, [], ◌∷◌, length, ◌==◌, nat_le}
+use Rattle.std.specs.Prelude.{ℕ, Bool, false, cond, ◌&&◌, ◌||◌, List, [], ◌∷◌, length, ◌==◌, nat_le}
+use Rattle.std.specs.List.{list_all}
 use Rattle.std.specs.Str.{bytes_eq}
 
 -- a lower-case letter
@@ -22,14 +23,10 @@ star b = b == 42
 abbrev pub max_name : ℕ
 max_name = 8
 
-abbrev pub every : (ℕ → Bool) → List ℕ → Bool
-every test [] = true
-every test (b ∷ bs) = test b && every test bs
-
 -- letters or digits, the first a letter
 abbrev pub letter_first : List ℕ → Bool
 letter_first [] = false
-letter_first (b ∷ bs) = letter b && every name_byte bs
+letter_first (b ∷ bs) = letter b && list_all name_byte bs
 
 -- some stars, or none, before such bytes
 abbrev pub starred : List ℕ → Bool

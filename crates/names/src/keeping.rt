@@ -13,9 +13,7 @@ impl Name {
         ensures { bytes_of result ≡ bytes.now }
     {
         let mut all = [0; MAX_NAME];
-        for i in 0..bytes.len() {
-            all[i] = bytes[i];
-        }
+        all[..bytes.len()].copy_from_slice(bytes);
         Name {
             bytes: all,
             len: bytes.len(),

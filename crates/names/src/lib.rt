@@ -2,7 +2,8 @@
 #![tactic(auto)]
 
 ghost use Rattle.std.specs.Prelude.{◌≡◌, ℕ, ◌+◌, ◌-◌, ◌<◌, ◌≤◌, Bool, length};
-ghost use Rattle.names.specs.Names.{letter, digit, name_byte, star, every, letter_first, starred, lawful_name, lawful_word, same_word};
+ghost use Rattle.std.specs.List.{list_all};
+ghost use Rattle.names.specs.Names.{letter, digit, name_byte, star, letter_first, starred, lawful_name, lawful_word, same_word};
 
 pub mod keeping;
 pub mod name;
@@ -14,13 +15,13 @@ pub const MAX_NAME: usize = 8;
 pub fn is_letter(b: u8) -> bool
     ensures { result ≡ letter b }
 {
-    b >= b'a' && b <= b'z'
+    b.is_ascii_lowercase()
 }
 
 pub fn is_digit(b: u8) -> bool
     ensures { result ≡ digit b }
 {
-    b >= b'0' && b <= b'9'
+    b.is_ascii_digit()
 }
 
 // Whether a byte can go on with a name.
@@ -37,19 +38,21 @@ pub fn is_star(b: u8) -> bool
     b == b'*'
 }
 
+// Whether each byte can go on with a name.
+fn are_name_bytes(s: &[u8]) -> bool
+    ensures { result ≡ list_all name_byte s.now }
+{
+    s.iter().all(|b| is_name_byte(*b))
+}
+
 // Whether the bytes are letters or digits, the first a letter.
 fn is_letter_first(s: &[u8]) -> bool
     ensures { result ≡ letter_first s.now }
 {
-    if s.is_empty() || !is_letter(s[0]) {
-        return false;
+    match s {
+        [first, rest @ ..] => is_letter(*first) && are_name_bytes(rest),
+        [] => false,
     }
-    for i in 1..s.len() {
-        if !is_name_byte(s[i]) {
-            return false;
-        }
-    }
-    true
 }
 
 // Whether the bytes are a name.
@@ -59,15 +62,21 @@ pub fn is_name(s: &[u8]) -> bool
     s.len() <= MAX_NAME && is_letter_first(s)
 }
 
+// Whether the bytes are some stars, or none, and then letters or digits, the first a letter.
+fn is_starred(s: &[u8]) -> bool
+    ensures { result ≡ starred s.now }
+{
+    match s {
+        [b'*', rest @ ..] => is_starred(rest),
+        _ => is_letter_first(s),
+    }
+}
+
 // Whether the bytes are a cell word.
 pub fn is_cell_word(s: &[u8]) -> bool
     ensures { result ≡ lawful_word s.now }
 {
-    let mut i = 0;
-    while i < s.len() && is_star(s[i]) {
-        i += 1;
-    }
-    s.len() <= MAX_NAME && is_letter_first(&s[i..])
+    s.len() <= MAX_NAME && is_starred(s)
 }
 
 // Whether two names, or two cell words, are the same.
