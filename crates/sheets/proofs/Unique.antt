@@ -1,5 +1,6 @@
 -- A text has at most one reading as forms. Assumes nothing.
 use Rattle.std.proofs.Common.{◌≡◌, ℕ, Bool, true, false, ◌||◌, eqb, List, [], ◌∷◌, ◌++◌, sym, refl, ap, ◌∙◌, inl, inr, append_assoc, arith, eq-eqb}
+use Rattle.std.proofs.lemmas.Bool.{or_left, or_right}
 use Rattle.names.specs.Names.{letter, digit, name_byte}
 use Rattle.sheets.proofs.Letters.{Starred, name_parts, word_parts}
 use Rattle.sheets.specs.Sheet.{Each, Name, Delay, Pins, Form, LawfulPins, LawfulCell, LawfulForm, LawfulForms, pins_text, cell_text, form_text, sheet_text}
@@ -21,13 +22,6 @@ cut (x ∷ n) (y ∷ m) c d xs ys p q h k e =
     let rest : n ++ (c ∷ xs) ≡ m ++ (d ∷ ys) = cc in
     let more = cut n m c d xs ys p.1 q.1 h k rest in
     ((λ i. first i ∷ more.0 i), more.1)
-
-or_left : (a b : Bool) → a ≡ true → (a || b) ≡ true
-or_left a b e = ap (λ v. v || b) e
-
-or_right : (a b : Bool) → b ≡ true → (a || b) ≡ true
-or_right true b e = refl
-or_right false b e = e
 
 weaken : (f g : ℕ → Bool) (xs : List ℕ) → ((b : ℕ) → f b ≡ true → g b ≡ true) → Each f xs → Each g xs
 weaken f g [] h a = tt

@@ -1,6 +1,7 @@
 -- What the recogniser's outcome says of the text. Assumes nothing.
 use Rattle.std.proofs.Common.{◌≡◌, ℕ, zero, suc, pred, ◌-◌, ◌<◌, ◌≤◌, Bool, true, false, cond, eqb, leb, List, [], ◌∷◌, ◌++◌, length, take, drop, Some, None, codes, Option, sym, refl, ap, ◌∙◌, subst, inl, inr, append_assoc, append-nil, arith, length-append, take-append-drop, eqb-true, leb-false, leb-true}
-use Rattle.std.proofs.lemmas.List.{take-take, take_all}
+use Rattle.std.proofs.Math.Seq.{take-append_seam}
+use Rattle.std.proofs.lemmas.List.{take-take, take_all, take-append-le}
 use Rattle.std.proofs.str.Laws.{order}
 use Rattle.names.specs.Names.{letter, digit, name_byte}
 use Rattle.sheets.specs.Sheet.{Form, LawfulForms, sheet_depth, sheet_text, open_after, Sheet, Viable, NineDeep, Shallow, Broken, TooDeep}
@@ -194,19 +195,10 @@ take_one_more : (xs : List ℕ) (b : ℕ) (ys : List ℕ) → take (suc (length 
 take_one_more [] b ys = refl
 take_one_more (x ∷ xs) b ys = ap (λ y. x ∷ y) (take_one_more xs b ys)
 
-take_front : (xs ys : List ℕ) → take (length xs) (xs ++ ys) ≡ xs
-take_front [] ys = refl
-take_front (x ∷ xs) ys = ap (λ y. x ∷ y) (take_front xs ys)
-
-take_less : (xs ys : List ℕ) (q : ℕ) → q ≤ length xs → take q (xs ++ ys) ≡ take q xs
-take_less xs ys zero h = refl
-take_less [] ys (suc q) h = absurd (omega arith)
-take_less (x ∷ xs) ys (suc q) h = ap (λ y. x ∷ y) (take_less xs ys q (omega arith))
-
 low_shallow : (front back : List ℕ) → AllLow 9 (Some (Item.forms ∷ [])) front → Shallow (front ++ back) (length front)
 low_shallow front back low q h deep =
     let few = low_brackets 9 (Some (Item.forms ∷ [])) front 0 (suc q) low (refl, tt) h in
-    let ten : open_after 0 (take (suc q) front) ≡ 10 = ap (open_after 0) (sym (take_less front back (suc q) h)) ∙ deep.1 in
+    let ten : open_after 0 (take (suc q) front) ≡ 10 = ap (open_after 0) (sym (take-append-le (suc q) front back h)) ∙ deep.1 in
     omega arith
 
 not_ended : (last : List Item) → Item.forms ∷ [] ≡ last → may_end last ≡ false → ⊥
@@ -229,7 +221,7 @@ broken_front front [] last run stops low =
     let all = append-nil front in
     record {
       within = omega (arith, ap length all);
-      possible = subst Viable (sym (take_front front [])) (live_viable front last run);
+      possible = subst Viable (sym (take-append_seam front [])) (live_viable front last run);
       byte = λ less. absurd (omega (arith, ap length all));
       end = λ e sheet.
           let (fs, lawful, text) = sheet in
@@ -242,7 +234,7 @@ broken_front front (b ∷ bs) last run stops low =
     let long = length-append front (b ∷ bs) in
     record {
       within = omega arith;
-      possible = subst Viable (sym (take_front front (b ∷ bs))) (live_viable front last run);
+      possible = subst Viable (sym (take-append_seam front (b ∷ bs))) (live_viable front last run);
       byte = λ less viable. failed_not_viable (front ++ (b ∷ [])) (run_more (Item.forms ∷ []) last front b run ∙ stops) (subst Viable (take_one_more front b bs) viable);
       end = λ e. absurd (omega arith);
       shallow = low_shallow front (b ∷ bs) low;

@@ -4,8 +4,6 @@
 ghost use Rattle.sheets.specs.Verdicts.{OneVerdict};
 
 // A text has one verdict at most: its forms, or the number and the place of its refusal.
-pub fn one_verdict() -> u8
+pub fn one_verdict()
     ensures { OneVerdict }
-{
-    0
-}
+{}
