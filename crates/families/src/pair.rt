@@ -4,7 +4,6 @@ ghost use Rattle.families.specs.Tables.{paired};
 ghost use Rattle.families.specs.Pairs.{pair_lawful};
 
 use crate::family::Family;
-use names::is_star;
 
 // A word that begins with a star goes to the second family without that star, every other word to the first.
 #[derive(Drop)]
@@ -19,10 +18,9 @@ impl<A: Family, B: Family> Family for Pair<A, B> {
     ghost lawful = { λ family. pair_lawful _ _ (A.Family.lawful family.first) (B.Family.lawful family.second) };
 
     fn table(&self, word: &[u8], pins: usize) -> Option<u16> {
-        if word.len() > 0 && is_star(word[0]) {
-            self.second.table(&word[1..], pins)
-        } else {
-            self.first.table(word, pins)
+        match word {
+            [b'*', rest @ ..] => self.second.table(rest, pins),
+            _ => self.first.table(word, pins),
         }
     }
 }
