@@ -11,16 +11,17 @@ use std::alloc::{AllocError, Global};
 pub fn board(heap: Global) -> Result<Library, AllocError>
     ensures { IfOk result (λ library. BoardEntries library.entries.items) }
 {
-    let mut entries = Vec::with_capacity(heap, 2)?;
-    entries.push_reserved(Entry {
-        name: Name::of(b"maj"),
-        pins: 3,
-        table: 0xe8,
-    });
-    entries.push_reserved(Entry {
-        name: Name::of(b"mux"),
-        pins: 3,
-        table: 0xe4,
-    });
+    let entries = vec![in heap;
+        Entry {
+            name: Name::of(b"maj"),
+            pins: 3,
+            table: 0xe8,
+        },
+        Entry {
+            name: Name::of(b"mux"),
+            pins: 3,
+            table: 0xe4,
+        },
+    ]?;
     Ok(Library::new(entries))
 }
