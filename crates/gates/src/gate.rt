@@ -2,10 +2,8 @@
 ghost use Rattle.std.specs.Prelude.{◌≡◌};
 ghost use Rattle.gates.specs.Gates.{gate_named, gate_table};
 
-use names::is_same_word;
-
 // A plain gate: buf and not have one pin, the others two to four.
-#[derive(Clone, Copy)]
+#[derive(Clone, Copy, Debug, PartialEq, Eq)]
 pub enum Gate {
     // The pin.
     Buf,
@@ -27,27 +25,19 @@ pub enum Gate {
 
 impl Gate {
     // The gate that a cell word names, if any.
-    pub fn named(word: &[u8]) -> Option<Gate>
+    pub fn named(word: &[u8]) -> Option<Self>
         ensures { result ≡ gate_named word.now }
     {
-        if is_same_word(word, b"buf") {
-            Some(Gate::Buf)
-        } else if is_same_word(word, b"not") {
-            Some(Gate::Not)
-        } else if is_same_word(word, b"and") {
-            Some(Gate::And)
-        } else if is_same_word(word, b"nand") {
-            Some(Gate::Nand)
-        } else if is_same_word(word, b"or") {
-            Some(Gate::Or)
-        } else if is_same_word(word, b"nor") {
-            Some(Gate::Nor)
-        } else if is_same_word(word, b"xor") {
-            Some(Gate::Xor)
-        } else if is_same_word(word, b"xnor") {
-            Some(Gate::Xnor)
-        } else {
-            None
+        match word {
+            b"buf" => Some(Gate::Buf),
+            b"not" => Some(Gate::Not),
+            b"and" => Some(Gate::And),
+            b"nand" => Some(Gate::Nand),
+            b"or" => Some(Gate::Or),
+            b"nor" => Some(Gate::Nor),
+            b"xor" => Some(Gate::Xor),
+            b"xnor" => Some(Gate::Xnor),
+            _ => None,
         }
     }
 

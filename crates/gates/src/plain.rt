@@ -15,9 +15,6 @@ impl Family for Plain {
     ghost lawful = { Prim.search rules };
 
     fn table(&self, word: &[u8], pins: usize) -> Option<u16> {
-        match Gate::named(word) {
-            None => None,
-            Some(gate) => gate.table(pins),
-        }
+        Gate::named(word)?.table(pins)
     }
 }
