@@ -1,25 +1,28 @@
 -- The first undecided input, and writes there. Assumes nothing.
-use Rattle.std.proofs.Common.{◌≡◌, ℕ, suc, ◌+◌, ◌<◌, Bool, true, false, ◌≢◌, [], ◌∷◌, length, get_or, drop, set, is_some, Some, None, Option, refl, ap, ◌∙◌, arith}
-use Rattle.std.proofs.lemmas.List.{at_drop_more}
-use Rattle.std.proofs.lemmas.Bool.{true≢false, false≢true}
+use Rattle.std.proofs.Common.{◌≡◌, ℕ, suc, ◌+◌, ◌≤◌, Bool, true, false, ◌≢◌, List, [], ◌∷◌, length, set, Some, None, Option, cond, unwrap_or, ltb, sym, refl, ap, ◌∙◌, arith}
+use Rattle.std.proofs.lemmas.Bool.{ltb-false}
+use Rattle.std.proofs.lemmas.List.Recursion.{is_position_or_len}
+use Rattle.std.proofs.lemmas.List.Sums.{prefix_len-le-length}
+use Rattle.std.specs.Option.{is_none}
+use Rattle.std.specs.List.{position, position_or_len}
 use Rattle.search.specs.Search.{Setting, undecided, decide}
 use Rattle.search.specs.Walk.{first_open}
 use Rattle.search.proofs.Settings.{decide_undecided}
 
--- one input more of the walk
-pub open_here : (s : Setting) (i : ℕ) (d : Option Bool) → i < length s → is_some (get_or s i d) ≡ false → first_open (drop i s) ≡ 0
-open_here s i d h e = at_drop_more first_open s i d h ∙ here (get_or s i d) e
+-- it is the first that passes the test, where one does
+first_open_is : (s : Setting) → first_open s ≡ position_or_len is_none s
+first_open_is s = is_position_or_len first_open is_none refl step s
   where
-    here : (o : Option Bool) → is_some o ≡ false → first_open (o ∷ drop (i + 1) s) ≡ 0
-    here None e = refl
-    here (Some x) e = absurd (true≢false e)
+    step : (o : Option Bool) (t : List (Option Bool)) → first_open (o ∷ t) ≡ cond (is_none o) 0 (1 + first_open t)
+    step None t = refl
+    step (Some x) t = omega arith
 
-pub open_further : (s : Setting) (i : ℕ) (d : Option Bool) → i < length s → is_some (get_or s i d) ≡ true → first_open (drop i s) ≡ 1 + first_open (drop (i + 1) s)
-open_further s i d h e = at_drop_more first_open s i d h ∙ here (get_or s i d) e
+pub first_position : (s : Setting) → unwrap_or (position is_none s) (length s) ≡ first_open s
+first_position s = by (ltb (position_or_len is_none s) (length s)) refl ∙ sym (first_open_is s)
   where
-    here : (o : Option Bool) → is_some o ≡ true → first_open (o ∷ drop (i + 1) s) ≡ 1 + first_open (drop (i + 1) s)
-    here None e = absurd (false≢true e)
-    here (Some x) e = omega arith
+    by : (b : Bool) → ltb (position_or_len is_none s) (length s) ≡ b → unwrap_or (cond b (Some (position_or_len is_none s)) None) (length s) ≡ position_or_len is_none s
+    by true e = refl
+    by false e = let within : position_or_len is_none s ≤ length s = prefix_len-le-length _ s in let past = ltb-false _ _ e in omega arith
 
 -- where the walk ends
 pub open_none : (s : Setting) → first_open s ≡ length s → undecided s ≡ 0

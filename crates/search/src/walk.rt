@@ -1,20 +1,24 @@
 // The steps of the search from one setting to the next.
 ghost use Rattle.std.specs.Prelude.{◌≡◌, ◌≤◌, length, is_some};
-ghost use Rattle.std.specs.Option.{unwrap_or};
+ghost use Rattle.std.specs.List.{position};
+ghost use Rattle.std.specs.Option.{is_none, unwrap_or};
 ghost use Rattle.search.specs.Turns.{Over, next_setting};
 ghost use Rattle.search.specs.Walk.{first_open};
 
+// The first undecided input, if any.
+fn find_open(setting: &[Option<bool>]) -> Option<usize>
+    ensures { result ≡ position is_none setting.now }
+{
+    setting.iter().position(|input| input.is_none())
+}
+
 // The first undecided input, or the number of inputs.
+#[tactic(auto, using(crate::proofs::Walks::first_position))]
 pub fn next_open(setting: &[Option<bool>]) -> usize
     ensures first { result ≡ first_open setting.now }
     ensures within { result ≤ length setting.now }
 {
-    for (i, input) in setting.iter().enumerate() {
-        if input.is_none() {
-            return i;
-        }
-    }
-    setting.len()
+    find_open(setting).unwrap_or(setting.len())
 }
 
 // Moves on from a setting whose continuations are done; false at the end of the search, where the ties are left.
@@ -25,12 +29,13 @@ pub fn pass(ties: &[Option<bool>], setting: &mut [Option<bool>]) -> bool
 {
     for i in (0..setting.len()).rev() {
         if ties[i].is_none() {
-            if let Some(one) = setting[i] {
-                if !one {
+            match setting[i] {
+                Some(false) => {
                     setting[i] = Some(true);
                     return true;
                 }
-                setting[i] = None;
+                Some(true) => setting[i] = None,
+                None => {}
             }
         }
     }
