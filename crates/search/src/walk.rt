@@ -27,6 +27,7 @@ pub fn pass(ties: &[Option<bool>], setting: &mut [Option<bool>]) -> bool
     ensures answer { result ≡ is_some (next_setting ties.now setting.old) }
     ensures setting { setting.new ≡ unwrap_or (next_setting ties.now setting.old) ties.now }
 {
+    // By index: no invariant of a loop over `setting.iter_mut().zip(ties).rev()` can say what the loop has written.
     for i in (0..setting.len()).rev() {
         if ties[i].is_none() {
             match setting[i] {
