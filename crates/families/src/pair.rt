@@ -4,6 +4,7 @@ ghost use Rattle.families.specs.Tables.{paired};
 ghost use Rattle.families.specs.Pairs.{pair_lawful};
 
 use crate::family::Family;
+use names::is_star;
 
 // A word that begins with a star goes to the second family without that star, every other word to the first.
 #[derive(Drop)]
@@ -19,7 +20,7 @@ impl<A: Family, B: Family> Family for Pair<A, B> {
 
     fn table(&self, word: &[u8], pins: usize) -> Option<u16> {
         match word {
-            [b'*', rest @ ..] => self.second.table(rest, pins),
+            [first, rest @ ..] if is_star(*first) => self.second.table(rest, pins),
             _ => self.first.table(word, pins),
         }
     }

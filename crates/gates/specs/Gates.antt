@@ -62,6 +62,17 @@ outputs gate pins = row (2 ^ pins) (output gate pins)
 abbrev pub gate_table : Gate → ℕ → Option ℕ
 gate_table gate pins = cond (nat_le (fewest gate) pins && nat_le pins (most gate)) (Some (outputs gate pins)) None
 
+-- the cell word that names a gate
+abbrev pub gate_word : Gate → List ℕ
+gate_word Buf = codes "buf"
+gate_word Not = codes "not"
+gate_word And = codes "and"
+gate_word Nand = codes "nand"
+gate_word Or = codes "or"
+gate_word Nor = codes "nor"
+gate_word Xor = codes "xor"
+gate_word Xnor = codes "xnor"
+
 -- the gate that a cell word names, if any
 abbrev pub gate_named : List ℕ → Option Gate
 gate_named word =

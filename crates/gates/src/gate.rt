@@ -1,6 +1,10 @@
 // The plain gates.
 ghost use Rattle.std.specs.Prelude.{◌≡◌};
-ghost use Rattle.gates.specs.Gates.{gate_named, gate_table};
+ghost use Rattle.std.specs.List.{find};
+ghost use Rattle.names.specs.Names.{same_word};
+ghost use Rattle.gates.specs.Gates.{gate_word, gate_named, gate_table};
+
+use names::is_same_word;
 
 // A plain gate: buf and not have one pin, the others two to four.
 #[derive(Clone, Copy, Debug, PartialEq, Eq)]
@@ -23,22 +27,50 @@ pub enum Gate {
     Xnor,
 }
 
+// Every gate.
+const GATES: [Gate; 8] = [
+    Gate::Buf,
+    Gate::Not,
+    Gate::And,
+    Gate::Nand,
+    Gate::Or,
+    Gate::Nor,
+    Gate::Xor,
+    Gate::Xnor,
+];
+
 impl Gate {
+    // The cell word that names it.
+    fn word(self) -> &'static [u8]
+        ensures { result.now ≡ gate_word self }
+    {
+        match self {
+            Gate::Buf => b"buf",
+            Gate::Not => b"not",
+            Gate::And => b"and",
+            Gate::Nand => b"nand",
+            Gate::Or => b"or",
+            Gate::Nor => b"nor",
+            Gate::Xor => b"xor",
+            Gate::Xnor => b"xnor",
+        }
+    }
+
+    // The first of some gates that a cell word names.
+    fn first_named(gates: &[Gate], word: &[u8]) -> Option<Self>
+        ensures { result ≡ find (λ gate. same_word word.now (gate_word gate)) gates.now }
+    {
+        gates
+            .iter()
+            .copied()
+            .find(|gate| is_same_word(word, gate.word()))
+    }
+
     // The gate that a cell word names, if any.
     pub fn named(word: &[u8]) -> Option<Self>
         ensures { result ≡ gate_named word.now }
     {
-        match word {
-            b"buf" => Some(Gate::Buf),
-            b"not" => Some(Gate::Not),
-            b"and" => Some(Gate::And),
-            b"nand" => Some(Gate::Nand),
-            b"or" => Some(Gate::Or),
-            b"nor" => Some(Gate::Nor),
-            b"xor" => Some(Gate::Xor),
-            b"xnor" => Some(Gate::Xnor),
-            _ => None,
-        }
+        Gate::first_named(&GATES, word)
     }
 
     // The table of the gate with so many pins, if it can have them.

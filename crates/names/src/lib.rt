@@ -67,7 +67,7 @@ fn is_starred(s: &[u8]) -> bool
     ensures { result ≡ starred s.now }
 {
     match s {
-        [b'*', rest @ ..] => is_starred(rest),
+        [first, rest @ ..] if is_star(*first) => is_starred(rest),
         _ => is_letter_first(s),
     }
 }
