@@ -13,7 +13,7 @@ use Rattle.names.specs.declared.name.Name.{Name}
 use Rattle.names.proofs.Same.{same_turned, same_through}
 use Rattle.lines.specs.Limits.{max_pins}
 use Rattle.library.specs.declared.entry.Entry.{Entry}
-use Rattle.library.specs.Board.{output, majority, selection, maj_table, mux_table, BoardEntries}
+use Rattle.library.specs.Board.{maj_table, mux_table}
 use Rattle.library.specs.Entries.{name_of, is_for, Bad, NoneBad, assigned, HasTable, AssignsByEntries}
 
 -- What a list has.
@@ -126,20 +126,3 @@ board_good maj mux a b (suc zero) l bad =
     let other : same_word (bytes_of maj) (bytes_of mux) ≡ false = ap (λ v. same_word v (bytes_of mux)) a ∙ ap (same_word (codes "maj")) b in
     not_from_Decides _ (repeated_decides (maj_entry maj ∷ []) (mux_entry mux) (ap lawful_name b) (omega arith) (omega arith) (omega arith)) (ap (λ v. option_is_some (cond v (Some maj_table) None)) other) (bad (mux_entry mux))
 board_good maj mux a b (suc (suc n)) l bad = omega arith
-
-each_row : (P : Bool → Bool → Bool → Type 0) → P false false false → P true false false → P false true false → P true true false → P false false true → P true false true → P false true true → P true true true → (v0 v1 v2 : Bool) → P v0 v1 v2
-each_row P a b c d e f g h false false false = a
-each_row P a b c d e f g h true false false = b
-each_row P a b c d e f g h false true false = c
-each_row P a b c d e f g h true true false = d
-each_row P a b c d e f g h false false true = e
-each_row P a b c d e f g h true false true = f
-each_row P a b c d e f g h false true true = g
-each_row P a b c d e f g h true true true = h
-
-pub board_entries : (maj mux : Name) → bytes_of maj ≡ codes "maj" → bytes_of mux ≡ codes "mux" → BoardEntries (maj_entry maj ∷ mux_entry mux ∷ [])
-board_entries maj mux a b = record {
-  both = ap (λ v. (v, 3, maj_table) ∷ (bytes_of mux, 3, mux_table) ∷ []) a ∙ ap (λ v. (codes "maj", 3, maj_table) ∷ (v, 3, mux_table) ∷ []) b;
-  maj_is_majority = each_row (λ v0 v1 v2. output maj_table v0 v1 v2 ≡ majority v0 v1 v2) refl refl refl refl refl refl refl refl;
-  mux_is_selection = each_row (λ v0 v1 v2. output mux_table v0 v1 v2 ≡ selection v0 v1 v2) refl refl refl refl refl refl refl refl;
-}
