@@ -57,7 +57,7 @@ impl Gate {
     }
 
     // The first of some gates that a cell word names.
-    fn first_named(gates: &[Gate], word: &[u8]) -> Option<Self>
+    fn first_named(gates: &[Gate], word: &[u8]) -> Option<Gate>
         ensures { result ≡ find (λ gate. same_word word.now (gate_word gate)) gates.now }
     {
         gates
@@ -67,7 +67,7 @@ impl Gate {
     }
 
     // The gate that a cell word names, if any.
-    pub fn named(word: &[u8]) -> Option<Self>
+    pub fn named(word: &[u8]) -> Option<Gate>
         ensures { result ≡ gate_named word.now }
     {
         Gate::first_named(&GATES, word)
