@@ -1,7 +1,7 @@
 -- When the pins of a cell decide its output: the computed time is the least that forces, it is the only one, and earlier pins decide no later.
 -- Assumes nothing.
-use Rattle.std.proofs.Common.{◌≡◌, ℕ, ◌+◌, ◌^◌, ◌<◌, Bool, true, false, ◌⊎◌, List, length, get_or, set, Decides, Option, unwrap_or, sym, refl, ap, ◌∙◌, subst, ⊎_elim, add-one}
-use Rattle.std.proofs.lemmas.List.Edits.{fill_by_more}
+use Rattle.std.proofs.Common.{◌≡◌, ℕ, ◌+◌, ◌^◌, ◌<◌, Bool, true, false, ◌⊎◌, Decides, Option, unwrap_or, sym, refl, ap, ◌∙◌, subst, ⊎_elim, add-one}
+use Rattle.std.specs.Bool.{then_some}
 use Rattle.times.specs.Kind.{Kind, NoLater, Laws}
 use Rattle.cells.specs.Deciding.{settled_by, Decided, forcing_time, decide, OneOutputDecidesFirst}
 use Rattle.cells.specs.Firsts.{FirstPassing, at_or_after, first, first_among, only_if}
@@ -100,27 +100,22 @@ module _ {Time : Type 0} (kind : Kind Time) (laws : Laws kind) where
         least = λ other h _. d.least other h (λ o l _. one row o below l);
       }
 
--- one pin more in the loop that marks the settled pins
-pub settled_more : {Time : Type 0} (kind : Kind Time) (times : ℕ → Time) (at time : Time) (settled : List Bool) (pin : ℕ) (now : Bool)
-    → pin < length settled → time ≡ times pin → now ≡ kind.at_or_before time at
-    → ((k : ℕ) → k < pin → get_or settled k false ≡ settled_by kind times at k)
-    → (k : ℕ) → k < pin + 1 → get_or (set settled pin now) k false ≡ settled_by kind times at k
-settled_more {Time} kind times at time settled pin now room is told sofar =
-    let here : now ≡ settled_by kind times at pin = told ∙ ap (λ (t : Time). kind.at_or_before t at) is in
-    subst (λ (v : Bool). (k : ℕ) → k < pin + 1 → get_or (set settled pin v) k false ≡ settled_by kind times at k) (sym here) (fill_by_more (settled_by kind times at) settled pin false room sofar)
+then_some_is : {A : Type 0} (test : Bool) (a : A) → then_some test a ≡ only_if test a
+then_some_is true a = refl
+then_some_is false a = refl
 
 -- one pin more in the loop that looks for the least forcing time
 pub forcing_more : {Time : Type 0} (kind : Kind Time) (table count row : ℕ) (times : ℕ → Time) (pin : ℕ) (settled : ℕ → Bool) (enough : Bool) (time : Time) (kept best next : Option Time)
     → time ≡ times pin
     → ((other : ℕ) → other < count → settled other ≡ settled_by kind times time other)
     → Decides enough (Forces settled table count row)
-    → kept ≡ only_if enough time
+    → kept ≡ then_some enough time
     → next ≡ first kind.at_or_before kept best
     → best ≡ first_among kind.at_or_before (forcing_time kind table count row times) pin
     → next ≡ first_among kind.at_or_before (forcing_time kind table count row times) (pin + 1)
 forcing_more {Time} kind table count row times pin settled enough time kept best next is told decides keeps sooner sofar =
     let same : kept ≡ forcing_time kind table count row times pin
-    = keeps ∙ ap (λ (test : Bool). only_if test time) (forces_is enough settled table count row decides ∙ forces_same settled (settled_by kind times time) table count row told)
+    = keeps ∙ then_some_is enough time ∙ ap (λ (test : Bool). only_if test time) (forces_is enough settled table count row decides ∙ forces_same settled (settled_by kind times time) table count row told)
     ∙ ap (λ (t : Time). only_if (forces (settled_by kind times t) table count row) t) is in
     simp (add-one, sooner, same, sofar)
 

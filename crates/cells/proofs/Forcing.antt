@@ -1,7 +1,11 @@
 -- Every number below another, and forcing: the computed tests say what they should, more pins force what fewer do, and all of them force. Assumes nothing.
-use Rattle.std.proofs.Common.{◌≡◌, ℕ, zero, suc, ◌^◌, ◌<◌, Bool, true, false, ◌&&◌, ◌⊎◌, Decides, sym, refl, ap, ◌∙◌, subst, inl, inr, ⊎_elim, true≢false, arith}
+use Rattle.std.proofs.Common.{◌≡◌, ℕ, zero, suc, ◌^◌, ◌<◌, Bool, true, false, ◌&&◌, ◌⊎◌, length, get_or, Decides, sym, refl, ap, ◌∙◌, subst, inl, inr, ⊎_elim, true≢false, arith}
 use mathlib.Core.Bool.{beq, false≢true}
-use Rattle.std.proofs.lemmas.Bool.{and_from, and_parts, cases_lt}
+use native.Mathlib.Nat.{zero-add}
+use Rattle.std.proofs.lemmas.Bool.{and_from, and_parts, cases_lt, false_from_ne_true}
+use Rattle.std.proofs.lemmas.List.FromFn.{length-range_with_len, get_or-range_with_len}
+use Rattle.std.specs.Bool.{MatchBool}
+use Rattle.std.specs.List.{range_with_len, AllWithin, HoldsAt}
 use Rattle.cells.specs.Tables.{bit, Agrees, Forces, every_below, implies, agrees, forces}
 use Rattle.cells.proofs.Rows.{same_bits}
 
@@ -45,6 +49,20 @@ pub every_same : (n : ℕ) (one other : ℕ → Bool) → ((i : ℕ) → i < n �
 every_same zero one other same = refl
 every_same (suc n) one other same =
     ap (λ (b : Bool). b && every_below n one) (same n (omega arith)) ∙ ap (λ (b : Bool). other n && b) (every_same n one other (λ i h. same i (omega arith)))
+
+-- a walk over the numbers below another, which stops at the first that fails the test
+pub every_walked : (n : ℕ) (test : ℕ → Bool) (all : Bool)
+    → MatchBool all (AllWithin (λ i. test i ≡ true) (range_with_len 0 n) 0 (length (range_with_len 0 n))) ((k : ℕ) × (k < length (range_with_len 0 n)) × HoldsAt (λ i. test i ≡ false) (range_with_len 0 n) k)
+    → all ≡ every_below n test
+every_walked n test true walked =
+    sym (every_from n test (λ i h.
+    let there : get_or (range_with_len 0 n) i 0 ≡ i = get_or-range_with_len 0 n i 0 h ∙ zero-add i in
+    ap test (sym there) ∙ walked i 0 (omega arith) (omega (arith, length-range_with_len 0 n))))
+every_walked n test false walked =
+    let k : ℕ = walked.0 in
+    let h : k < n = omega (arith, walked.1, length-range_with_len 0 n) in
+    let there : get_or (range_with_len 0 n) k 0 ≡ k = get_or-range_with_len 0 n k 0 h ∙ zero-add k in
+    sym (false_from_ne_true (every_below n test) (λ e. true≢false (sym (every_to n test e k h) ∙ ap test (sym there) ∙ walked.2 0)))
 
 agrees_to : (some : ℕ → Bool) (count row other : ℕ) → agrees some count row other ≡ true → Agrees some count row other
 agrees_to some count row other e pin h s =

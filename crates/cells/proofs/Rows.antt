@@ -1,5 +1,5 @@
 -- Bits and row numbers. Assumes nothing.
-use Rattle.std.proofs.Common.{◌≡◌, ℕ, zero, suc, ◌+◌, ◌*◌, ◌/◌, ◌%◌, ◌^◌, ◌<◌, Bool, true, false, cond, eqb, sym, refl, ap, ◌∙◌, subst, true≢false, mul_comm, pow-suc, div-one, add-one, arith}
+use Rattle.std.proofs.Common.{◌≡◌, ℕ, zero, suc, ◌+◌, ◌*◌, ◌/◌, ◌%◌, ◌^◌, ◌<◌, Bool, true, false, cond, eqb, sym, refl, ap, ◌∙◌, true≢false, mul_comm, pow-suc, div-one, arith}
 use mathlib.Core.Bool.{false≢true}
 use native.Mathlib.Nat.{div-div-eq-div-mul}
 use Rattle.cells.specs.Tables.{bit, row}
@@ -76,10 +76,3 @@ bit_row (suc n) value (suc i) h =
 pub row_of_bits : (n a : ℕ) (value : ℕ → Bool) → a < 2 ^ n → ((i : ℕ) → i < n → bit a i ≡ value i) → a ≡ row n value
 row_of_bits n a value below same =
     same_bits n a (row n value) below (row_below n value) (λ i h. same i h ∙ sym (bit_row n value i h))
-
--- one pin more
-pub row_more : (n now next : ℕ) (value : ℕ → Bool) (v : Bool) → value n ≡ v → now ≡ row n value → next ≡ now + cond v (2 ^ n) 0 → (next ≡ row (n + 1) value) × (next < 2 ^ (n + 1))
-row_more n now next value v is sofar weighed =
-    let same : next ≡ row (suc n) value = weighed ∙ ap (λ (m : ℕ). m + cond v (2 ^ n) 0) sofar ∙ ap (λ (u : Bool). row n value + cond u (2 ^ n) 0) (sym is) in
-    let below : next < 2 ^ suc n = subst (λ (m : ℕ). m < 2 ^ suc n) (sym same) (row_below (suc n) value) in
-    rw add-one (same, below)

@@ -1,21 +1,21 @@
--- The times of a cell's pins, as the code keeps them: a field for each of four pins; a number past 3 means pin 3. Assumes nothing.
+-- What stands at the pins of a cell, as the code keeps it: a field for each of four pins; a number past 3 means pin 3. Assumes nothing.
 use Rattle.std.specs.Prelude.{ℕ, zero, suc}
-use Rattle.cells.specs.declared.pins.PinTimes.{PinTimes}
+use Rattle.cells.specs.declared.pins.Pins.{Pins}
 
--- one time for every pin
-abbrev pub same_time : {Time : Type 0} → Time → PinTimes Time
-same_time time = record { zero = time; one = time; two = time; three = time }
+-- the same at every pin
+abbrev pub all_pins : {X : Type 0} → X → Pins X
+all_pins thing = record { zero = thing; one = thing; two = thing; three = thing }
 
--- the time of a pin
-abbrev pub pin_time : {Time : Type 0} → PinTimes Time → ℕ → Time
-pin_time times zero = times.zero
-pin_time times (suc zero) = times.one
-pin_time times (suc (suc zero)) = times.two
-pin_time times (suc (suc (suc pin))) = times.three
+-- what stands at a pin
+abbrev pub at_pin : {X : Type 0} → Pins X → ℕ → X
+at_pin pins zero = pins.zero
+at_pin pins (suc zero) = pins.one
+at_pin pins (suc (suc zero)) = pins.two
+at_pin pins (suc (suc (suc pin))) = pins.three
 
--- the same times but for one pin
-abbrev pub with_pin : {Time : Type 0} → PinTimes Time → ℕ → Time → PinTimes Time
-with_pin times zero time = record { zero = time; one = times.one; two = times.two; three = times.three }
-with_pin times (suc zero) time = record { zero = times.zero; one = time; two = times.two; three = times.three }
-with_pin times (suc (suc zero)) time = record { zero = times.zero; one = times.one; two = time; three = times.three }
-with_pin times (suc (suc (suc pin))) time = record { zero = times.zero; one = times.one; two = times.two; three = time }
+-- the same but for one pin
+abbrev pub with_pin : {X : Type 0} → Pins X → ℕ → X → Pins X
+with_pin pins zero new = record { zero = new; one = pins.one; two = pins.two; three = pins.three }
+with_pin pins (suc zero) new = record { zero = pins.zero; one = new; two = pins.two; three = pins.three }
+with_pin pins (suc (suc zero)) new = record { zero = pins.zero; one = pins.one; two = new; three = pins.three }
+with_pin pins (suc (suc (suc pin))) new = record { zero = pins.zero; one = pins.one; two = pins.two; three = new }

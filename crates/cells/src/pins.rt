@@ -1,32 +1,33 @@
-// The times of a cell's pins.
+// What stands at the pins of a cell.
 ghost use Rattle.std.specs.Prelude.{◌≡◌};
-ghost use Rattle.cells.specs.Pins.{same_time, pin_time, with_pin};
+ghost use Rattle.cells.specs.Pins.{all_pins, at_pin, with_pin};
 
-// A field for each of four pins: an array would ask that four times fit the memory, which code over any kind of time cannot show.
+// A field for each of four pins, and no array: who passes an array of a type parameter on has to show that it fits the
+// memory, which code over any kind of time cannot.
 #[derive(Clone, Copy)]
-pub struct PinTimes<T> {
-    pub zero: T,
-    pub one: T,
-    pub two: T,
-    pub three: T,
+pub struct Pins<X> {
+    pub zero: X,
+    pub one: X,
+    pub two: X,
+    pub three: X,
 }
 
-impl<T: Copy> PinTimes<T> {
-    // One time for every pin.
-    pub fn all(time: T) -> PinTimes<T>
-        ensures { result ≡ same_time time }
+impl<X: Copy> Pins<X> {
+    // The same at every pin.
+    pub fn all(thing: X) -> Pins<X>
+        ensures { result ≡ all_pins thing }
     {
-        PinTimes {
-            zero: time,
-            one: time,
-            two: time,
-            three: time,
+        Pins {
+            zero: thing,
+            one: thing,
+            two: thing,
+            three: thing,
         }
     }
 
-    // The time of a pin; a number past 3 means pin 3.
-    pub fn get(self, pin: usize) -> T
-        ensures { result ≡ pin_time self pin }
+    // What stands at a pin; a number past 3 means pin 3.
+    pub fn get(self, pin: usize) -> X
+        ensures { result ≡ at_pin self pin }
     {
         match pin {
             0 => self.zero,
@@ -36,15 +37,15 @@ impl<T: Copy> PinTimes<T> {
         }
     }
 
-    // The same times but for one pin; a number past 3 means pin 3.
-    pub fn with(self, pin: usize, new: T) -> PinTimes<T>
+    // The same but for one pin; a number past 3 means pin 3.
+    pub fn with(self, pin: usize, new: X) -> Pins<X>
         ensures { result ≡ with_pin self pin new }
     {
         match pin {
-            0 => PinTimes { zero: new, ..self },
-            1 => PinTimes { one: new, ..self },
-            2 => PinTimes { two: new, ..self },
-            _ => PinTimes { three: new, ..self },
+            0 => Pins { zero: new, ..self },
+            1 => Pins { one: new, ..self },
+            2 => Pins { two: new, ..self },
+            _ => Pins { three: new, ..self },
         }
     }
 }

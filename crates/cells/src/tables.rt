@@ -2,6 +2,8 @@
 ghost use Rattle.std.specs.Prelude.{◌≡◌, ◌^◌, ◌<◌, ◌≤◌, false, Decides, slice_index_or};
 ghost use Rattle.cells.specs.Tables.{bit, agrees, Forces};
 
+use lines::limits::MAX_PINS;
+
 // Bit i of n.
 pub fn bit_of(n: usize, i: usize) -> bool
     requires { i < 64 }
@@ -11,27 +13,19 @@ pub fn bit_of(n: usize, i: usize) -> bool
 }
 
 // Whether the row `other` agrees with `row` at some of the pins.
-fn agrees_at(some: [bool; 4], count: usize, row: usize, other: usize) -> bool
+fn agrees_at(some: [bool; MAX_PINS], count: usize, row: usize, other: usize) -> bool
     requires { count ≤ 4 }
     ensures { result ≡ agrees (λ pin. slice_index_or some pin false) count row other }
 {
-    let mut all = true;
-    for pin in 0..count {
-        all = (!some[pin] | (bit_of(other, pin) == bit_of(row, pin))) & all;
-    }
-    all
+    (0..count).all(|pin| !some[pin] || bit_of(other, pin) == bit_of(row, pin))
 }
 
 // Whether some of the pins force the output of the table in `row`.
-pub fn forced_by(some: [bool; 4], table: usize, count: usize, row: usize) -> bool
+pub fn forced_by(some: [bool; MAX_PINS], table: usize, count: usize, row: usize) -> bool
     requires { (count ≤ 4) × (row < 2 ^ count) }
     ensures { Decides result (Forces (λ pin. slice_index_or some pin false) table count row) }
 {
-    let mut all = true;
-    let rows = 1 << count;
-    for other in 0..rows {
-        all = (!agrees_at(some, count, row, other) | (bit_of(table, other) == bit_of(table, row)))
-            & all;
-    }
-    all
+    (0..1 << count).all(|other| {
+        bit_of(table, other) == bit_of(table, row) || !agrees_at(some, count, row, other)
+    })
 }

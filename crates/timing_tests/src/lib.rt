@@ -4,7 +4,7 @@
 #[cfg(test)]
 mod tests {
     use cells::decide::decided_at;
-    use cells::pins::PinTimes;
+    use cells::pins::Pins;
     use families::family::Family;
     use families::pair::Pair;
     use gates::plain::Plain;
@@ -64,7 +64,7 @@ mod tests {
     // mux with pins 0, 1, 2 at times 9, 2, 4: the selector matters only where pins 1 and 2 differ.
     #[test]
     fn mux_decides(rt: HostRuntime) {
-        let at = PinTimes::all(ticks(9)).with(1, ticks(2)).with(2, ticks(4));
+        let at = Pins::all(ticks(9)).with(1, ticks(2)).with(2, ticks(4));
         assert_eq!(rt; decided_at(0xe4, 3, 6, at), ticks(4));
         assert_eq!(rt; decided_at(0xe4, 3, 7, at), ticks(4));
         assert_eq!(rt; decided_at(0xe4, 3, 2, at), ticks(9));

@@ -1,5 +1,13 @@
-use Rattle.std.proofs.Common.{add-one}
+use Rattle.std.proofs.Common.{◌≡◌, ℕ, Bool, true, false, get_or, refl, rules, arith}
+use borrow.Author.Tests.{tests}
+use mathlib.Core.Bool.{beq}
+use Rattle.std.proofs.lemmas.Iterator.{cases_from_all, YieldsList-from_range}
+use Rattle.cells.specs.Tables.{bit, implies}
+use Rattle.cells.proofs.Forcing.{every_walked}
 use Rattle.cells.proofs.tables.agrees_at.Goals as goal
 
-pub loop-pin-preserved : goal.loop-pin-preserved
-loop-pin-preserved c = simp (add-one, c.bit_of.ensures, c.bit_of-in-loop-pin.ensures, c.loop-pin.invariant)
+pub returns : goal.returns
+returns c =
+    let same : ℕ → Bool = λ pin. implies (get_or c.args.some pin false) (beq (bit c.args.other pin) (bit c.args.row pin)) in
+    every_walked c.args.count same c.all.result
+    (cases_from_all _ _ _ (λ pin. same pin ≡ true) (λ pin. same pin ≡ false) c.all.ensures.ran (YieldsList-from_range 0 c.args.count c.args.count refl (omega arith)) (λ x q k. search (rules, tests)) (λ x q k. search (rules, tests)))
