@@ -17,7 +17,7 @@ use Rattle.settling.specs.Settle.{input_time, pin_row, values_of, times_of, Line
 use Rattle.settling.proofs.WorkedOut.{line_by_line, worked_out_at, worked_out_length}
 
 -- only the values of the pins below the count matter to the row number
-row_same : (count : ℕ) (one other : ℕ → Bool) → ((pin : ℕ) → pin < count → one pin ≡ other pin) → row count one ≡ row count other
+pub row_same : (count : ℕ) (one other : ℕ → Bool) → ((pin : ℕ) → pin < count → one pin ≡ other pin) → row count one ≡ row count other
 row_same count one other same = row_of_bits count (row count one) other (row_below count one) (λ pin p. bit_row count one pin p ∙ same pin p)
 
 module _ {Time : Type 0} (kind : Kind Time) (laws : Laws kind) where

@@ -1,17 +1,17 @@
 // The latest time of every line at each value under a setting.
 ghost use Rattle.std.specs.Prelude.{◌≡◌, ℕ, ◌^◌, ◌<◌, ◌≤◌, ◌++◌, length, drop, is_some};
-ghost use Rattle.std.specs.Option.{unwrap_or};
-ghost use Rattle.lines.specs.Lines.{feeder, inputs, Lawful, LawfulCell, LawfulDriver};
-ghost use Rattle.cells.specs.Pins.{pin_time};
+ghost use Rattle.std.specs.Option.{IfSome, unwrap_or};
+ghost use Rattle.lines.specs.Lines.{inputs, LawfulCell, LawfulDriver};
 ghost use Rattle.cells.specs.Tables.{every_below};
+ghost use Rattle.cells.specs.Pins.{at_pin};
 ghost use Rattle.settling.specs.Settle.{tied_by};
 ghost use Rattle.settling.specs.Latest.{in_setting, latest_at, latest_input, latest_line, latest_pin, latest_by_row, latest_output, latest_driver, latest, LatestTimes};
 
 use crate::input::input_time;
-use crate::places::put;
+use crate::tied::Tied;
 use cells::decide::decided_at;
 use cells::order::later_of;
-use cells::pins::PinTimes;
+use cells::pins::Pins;
 use cells::tables::bit_of;
 use lines::delay::delay_of;
 use lines::line::{Cell, Driver, Line};
@@ -37,36 +37,22 @@ impl<T: Copy> Latest<T> {
 fn input_latest<T: Time>(line: Line, tied: bool, decided: Option<bool>, value: bool) -> Option<T>
     ensures { result ≡ latest_input T.kind tied line decided value }
 {
-    let time = input_time(line, value, tied);
-    match decided {
-        None => Some(time),
-        Some(decided) => { if decided == value { Some(time) } else { None } }
-    }
+    decided
+        .is_none_or(|decided| decided == value)
+        .then_some(input_time(line, value, tied))
 }
 
-// The latest times of a cell's pins at their values in a row.
-#[derive(Drop)]
-struct RowTimes<T> {
-    // Whether each pin has one.
-    every: bool,
-    // They, or the start where there is none.
-    at: PinTimes<T>,
-}
-
-fn row_times<T: Time>(cell: Cell, row: usize, work: &[Latest<T>]) -> RowTimes<T>
-    requires { (cell.count ≤ 4) × (((pin : ℕ) → pin < cell.count → feeder cell pin < length work.now)) }
-    ensures every { result.every ≡ every_below cell.count (λ pin. is_some (latest_pin (latest_line work.now) cell row pin)) }
-    ensures times { (pin : ℕ) → pin < cell.count → pin_time result.at pin ≡ unwrap_or (latest_pin (latest_line work.now) cell row pin) T.kind.start }
+// The latest times of a cell's pins at their values in a row, where each has one.
+fn row_times<T: Time>(cell: Cell, row: usize, work: &[Latest<T>]) -> Option<Pins<T>>
+    requires { LawfulCell (length work.now) cell }
+    ensures every { is_some result ≡ every_below cell.count (λ pin. is_some (latest_pin (latest_line work.now) cell row pin)) }
+    ensures times { IfSome result (λ at. (pin : ℕ) → pin < cell.count → at_pin at pin ≡ unwrap_or (latest_pin (latest_line work.now) cell row pin) T.kind.start) }
 {
-    let start = T::start();
-    let mut every = true;
-    let mut at = PinTimes::all(start);
-    for pin in 0..cell.count {
-        let time = work[cell.pins[pin]].at(bit_of(row, pin));
-        every = time.is_some() & every;
-        at = at.with(pin, time.unwrap_or(start));
+    let mut at = Pins::all(T::start());
+    for (pin, line) in cell.pins[..cell.count].iter().enumerate() {
+        at = at.with(pin, work[*line].at(bit_of(row, pin))?);
     }
-    RowTimes { every, at }
+    Some(at)
 }
 
 // The latest time that a row gives for a value, if it can.
@@ -77,18 +63,15 @@ fn row_latest<T: Time>(
     row: usize,
     work: &[Latest<T>],
 ) -> Option<T>
-    requires { (LawfulCell (length work.now) cell) × (row < 2 ^ cell.count) }
+    requires { LawfulCell (length work.now) cell × (row < 2 ^ cell.count) }
     ensures { result ≡ latest_by_row T.kind (latest_line work.now) line cell value row }
 {
     let table = cell.table as usize;
     if bit_of(table, row) != value {
         return None;
     }
-    let times = row_times(cell, row, work);
-    if !times.every {
-        return None;
-    }
-    let decided = decided_at(table, cell.count, row, times.at);
+    let times = row_times(cell, row, work)?;
+    let decided = decided_at(table, cell.count, row, times);
     Some(decided.after(delay_of(line, value)))
 }
 
@@ -97,59 +80,53 @@ fn output_latest<T: Time>(line: Line, cell: Cell, value: bool, work: &[Latest<T>
     requires { LawfulCell (length work.now) cell }
     ensures { result ≡ latest_output T.kind (latest_line work.now) line cell value }
 {
-    let rows: usize = 1 << cell.count;
     let mut best = None;
-    for row in 0..rows {
+    for row in 0..1 << cell.count {
         best = later_of(row_latest(line, cell, value, row, work), best);
     }
     best
 }
 
-// The latest times of a line, from those of the lines below it.
-pub(crate) fn line_latest<T: Time>(
-    line: Line,
-    number: usize,
-    ties: &[Option<bool>],
-    setting: &[Option<bool>],
-    work: &[Latest<T>],
-) -> Latest<T>
-    requires { (((count : ℕ) × LawfulDriver count number line.driver × (count ≤ length ties.now) × (count ≤ length setting.now))) × (number ≤ length work.now) }
-    ensures { result ≡ latest_driver T.kind (tied_by ties.now) (in_setting setting.now) number (latest_line work.now) line line.driver }
-{
-    match line.driver {
-        Driver::Input => {
-            let decided = setting[number];
-            let tie = ties[number];
-            let tied = tie.is_some();
-            Latest {
-                zero: input_latest(line, tied, decided, false),
-                one: input_latest(line, tied, decided, true),
+impl Tied<'_> {
+    // The latest times of a line, from those of the lines below it.
+    pub(crate) fn line_latest<T: Time>(
+        self,
+        line: Line,
+        number: usize,
+        setting: &[Option<bool>],
+        work: &[Latest<T>],
+    ) -> Latest<T>
+        requires driver { LawfulDriver (inputs self.lines.now) number line.driver }
+        requires setting { inputs self.lines.now ≤ length setting.now }
+        requires below { number ≤ length work.now }
+        ensures { result ≡ latest_driver T.kind (tied_by self.entry.ties.now) (in_setting setting.now) number (latest_line work.now) line line.driver }
+    {
+        match line.driver {
+            Driver::Input => {
+                let decided = setting[number];
+                let tied = self.ties[number].is_some();
+                Latest {
+                    zero: input_latest(line, tied, decided, false),
+                    one: input_latest(line, tied, decided, true),
+                }
             }
+            Driver::Output(cell) => Latest {
+                zero: output_latest(line, cell, false, work),
+                one: output_latest(line, cell, true, work),
+            },
         }
-        Driver::Output(cell) => Latest {
-            zero: output_latest(line, cell, false, work),
-            one: output_latest(line, cell, true, work),
-        },
     }
-}
 
-// Writes the latest times of every line into the first places of a buffer; further places stay.
-// There is one place for each input in the ties and in the setting.
-pub fn latest_times<T: Time>(
-    lines: &[Line],
-    ties: &[Option<bool>],
-    setting: &[Option<bool>],
-    work: &mut [Latest<T>],
-)
-    requires lawful { Lawful lines.now }
-    requires ties { inputs lines.now ≤ length ties.now }
-    requires setting { inputs lines.now ≤ length setting.now }
-    requires room { length lines.now ≤ length work.old }
-    ensures work { work.new ≡ latest T.kind (tied_by ties.now) lines.now (in_setting setting.now) ++ drop (length lines.now) work.old }
-    ensures rules { LatestTimes T.kind (tied_by ties.now) lines.now (in_setting setting.now) (latest_line work.new) }
-{
-    for number in 0..lines.len() {
-        let times = line_latest(lines[number], number, ties, setting, work);
-        put(work, number, times);
+    // Writes the latest times of every line into the first places of a buffer; further places stay.
+    // There is one place for each input in the setting.
+    pub fn latest_times<T: Time>(self, setting: &[Option<bool>], work: &mut [Latest<T>])
+        requires setting { inputs self.lines.now ≤ length setting.now }
+        requires room { length self.lines.now ≤ length work.old }
+        ensures work { work.new ≡ latest T.kind (tied_by self.entry.ties.now) self.entry.lines.now (in_setting setting.now) ++ drop (length self.entry.lines.now) work.old }
+        ensures rules { LatestTimes T.kind (tied_by self.entry.ties.now) self.entry.lines.now (in_setting setting.now) (latest_line work.new) }
+    {
+        for (number, line) in self.lines.iter().enumerate() {
+            work[number] = self.line_latest(*line, number, setting, work);
+        }
     }
 }

@@ -4,6 +4,7 @@
 pub mod again;
 pub mod input;
 pub mod latest;
-pub mod places;
+mod pins;
 pub mod settle;
 pub mod stands;
+pub mod tied;

@@ -1,19 +1,30 @@
-use Rattle.std.proofs.Common.{◌≡◌, ◌<◌, unwrap_or, ap, ◌∙◌, arith}
-use Rattle.std.proofs.lemmas.List.{get_or_default}
+use Rattle.std.proofs.Common.{◌≡◌, ℕ, ◌<◌, Bool, List, length, get_or, is_some, Option, sym, ap, ◌∙◌, arith}
+use Rattle.std.proofs.lemmas.List.{get_or-take, get_or_default}
+use Rattle.lines.specs.declared.line.Cell.{Cell}
 use Rattle.lines.specs.Lines.{feeder}
+use Rattle.cells.specs.Tables.{bit}
+use Rattle.settling.specs.declared.latest.Latest.{Latest}
 use Rattle.settling.specs.Latest.{latest_at, latest_line, latest_pin, no_latest}
-use Rattle.settling.proofs.LatestWrites.{row_times_more}
+use Rattle.settling.proofs.LatestWrites.{pin_without, row_times_more}
 use Rattle.settling.proofs.latest.row_times.Goals as goal
+
+-- what is read for a pin is its latest time at its value in the row
+read : {Time : Type 0} (work : List (Latest Time)) (cell : Cell) (row pin line : ℕ) (item : Latest Time) (value : Bool) (at : Option Time) → feeder cell pin < length work → line ≡ feeder cell pin
+    → item ≡ get_or work line item → value ≡ bit row pin → at ≡ latest_at item value → at ≡ latest_pin (latest_line work) cell row pin
+read work cell row pin line item value at inside fed is bits told =
+    told ∙ ap (λ l. latest_at l value) (is ∙ ap (λ n. get_or work n item) fed ∙ get_or_default work (feeder cell pin) item no_latest inside) ∙ ap (latest_at (latest_line work (feeder cell pin))) bits
+
+pub returns-in_err-at-clause-every : goal.returns-in_err-at-clause-every
+returns-in_err-at-clause-every g c =
+    let cell = c.args.cell in
+    let pin = c.loop-pin.pin in
+    ap is_some c.from_residual.ensures ∙ pin_without cell.count pin _ (omega arith)
+    (ap is_some (sym (read c.args.work.now cell c.args.row pin _ c.index-work-line.result c.bit_of.result _ (c.requires.lower pin (omega arith)) (get_or-take cell.count cell.pins pin 0 (omega arith)) c.index-work-line.is c.bit_of.ensures c.in_err-at.ensures)))
 
 pub loop-pin-preserved : goal.loop-pin-preserved
 loop-pin-preserved g c =
-    let kind = g.T.Time.kind in
-    let work = c.args.work.now in
+    let cell = c.args.cell in
     let pin = c.loop-pin.pin in
-    let from = feeder c.args.cell pin in
-    let few : pin < 4 = omega arith in
-    let read : c.index-work-cell.result ≡ latest_line work from = c.index-work-cell.is ∙ get_or_default work from c.index-work-cell.result no_latest (c.requires.1 pin c.loop-pin-test.true) in
-    let time : c.at-time.result ≡ latest_pin (latest_line work) c.args.cell c.args.row pin
-    = c.at-time.ensures ∙ ap (λ l. latest_at l c.bit_of.result) read ∙ ap (latest_at (latest_line work from)) c.bit_of.ensures in
-    row_times_more kind.start (latest_pin (latest_line work) c.args.cell c.args.row) pin c.at-time.result c.is_some-every.result c.loop-pin.every c.unwrap_or.result c.loop-pin.at c.with-at.result
-    few time c.is_some-every.ensures (c.unwrap_or.ensures ∙ ap (unwrap_or c.at-time.result) c.start-start.ensures) c.with-at.ensures c.loop-pin.invariant
+    row_times_more g.T.Time.kind.start (latest_pin (latest_line c.args.work.now) cell c.args.row) pin c.in_ok-at.field-0 c.loop-pin.at c.with-at.result (omega arith)
+    (read c.args.work.now cell c.args.row pin _ c.index-work-line.result c.bit_of.result _ (c.requires.lower pin (omega arith)) (get_or-take cell.count cell.pins pin 0 (omega arith)) c.index-work-line.is c.bit_of.ensures c.in_ok-at.ensures)
+    c.with-at.ensures c.loop-pin.invariant

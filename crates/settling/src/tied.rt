@@ -1,0 +1,14 @@
+// The lines of a network with the ties of its inputs.
+ghost use Rattle.std.specs.Prelude.{◌≤◌, length};
+ghost use Rattle.lines.specs.Lines.{inputs, Lawful};
+
+use lines::line::Line;
+
+// Lines, and for each input the value that it is tied to, or None; further places of the ties mean nothing.
+#[derive(Clone, Copy)]
+pub struct Tied<'a> {
+    pub lines: &'a [Line],
+    pub ties: &'a [Option<bool>],
+    ghost lawful: { ∥ Lawful lines.now ∥₁ },
+    ghost wide: { inputs lines.now ≤ length ties.now },
+}
