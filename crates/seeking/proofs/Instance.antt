@@ -1,6 +1,6 @@
 -- The searches over the real final values, settle times and latest times. Assumes nothing.
 use Rattle.std.proofs.Common.{◌≡◌, ℕ, zero, suc, ◌<◌, Bool, true, false, cond, not, List, [], ◌∷◌, length, Some, None, Option, sym, refl, ap, ◌∙◌, subst, ⊎_elim, arith}
-use Rattle.std.proofs.lemmas.Bool.{both_ways}
+use Rattle.std.proofs.lemmas.Bool.{both_ways, false_from_ne_true}
 use Rattle.lines.specs.declared.line.Line.{Line}
 use Rattle.lines.specs.Lines.{Lawful, inputs}
 use Rattle.times.specs.Kind.{Kind, Laws, NoLater}
@@ -38,10 +38,6 @@ agreeing lines v s n a input h = agrees_with v s a input (omega arith)
 pub deciding : (lines : List Line) (v : Vector) → length v ≡ inputs lines → DecidesAll (inputs lines) (in_setting (whole v)) (in_vector v)
 deciding lines v n input h = decides_all v input (omega arith)
 
-not_cut : (b : Bool) → (b ≡ true → ⊥) → b ≡ false
-not_cut true h = absurd (h refl)
-not_cut false h = refl
-
 module _ {Time : Type 0} (kind : Kind Time) (laws : Laws kind) where
   order : Order kind.at_or_before
   order = record { total = laws.total; transitive = laws.transitive }
@@ -68,7 +64,7 @@ module _ {Time : Type 0} (kind : Kind Time) (laws : Laws kind) where
     seek_test value bound =
         record {
           sound = λ v s n a late.
-              not_cut (cuts kind lines ties line value bound s)
+              false_from_ne_true (cuts kind lines ties line value bound s)
               (λ is_cut. cut_hides_none kind laws (tied_by ties) lines (in_setting s) (in_vector v) bound lawful (agreeing lines v s n a) line present
               (ap (λ x. cuts kind lines ties line x bound s) late.final_is ∙ is_cut) late.not_before);
           exact = λ v n uncut.

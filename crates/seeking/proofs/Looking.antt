@@ -1,17 +1,14 @@
 -- The ends and turns of the search's loop, and the latest times read. Assumes nothing.
-use Rattle.std.proofs.Common.{◌≡◌, ℕ, suc, ◌+◌, ◌-◌, ◌^◌, ◌<◌, ◌≤◌, Bool, true, false, List, ◌++◌, length, get_or, is_some, Some, None, Option, unwrap_or, sym, refl, ap, ◌∙◌, arith}
+use Rattle.std.proofs.Common.{◌≡◌, ℕ, suc, ◌+◌, ◌-◌, ◌^◌, ◌<◌, ◌≤◌, Bool, true, false, List, length, is_some, Some, None, Option, unwrap_or, sym, refl, ap, ◌∙◌, arith}
 use Rattle.std.proofs.lemmas.Nat.{pow_below}
-use Rattle.std.proofs.lemmas.List.{get_or_append_left, get_or_read}
 use Rattle.std.proofs.lemmas.Bool.{true≢false, false≢true}
 use Rattle.lines.specs.declared.line.Line.{Line}
 use Rattle.lines.specs.Limits.{max_inputs}
 use Rattle.lines.specs.Lines.{Lawful, inputs}
 use Rattle.times.specs.Kind.{Kind, Laws}
-use Rattle.settling.specs.declared.latest.Latest.{Latest}
 use Rattle.settling.specs.Settle.{in_vector, tied_by}
-use Rattle.settling.specs.Latest.{in_setting, latest, no_latest}
+use Rattle.settling.specs.Latest.{in_setting}
 use Rattle.settling.proofs.Bounds.{latest_exact, uncut_is_found}
-use Rattle.settling.proofs.LatestRules.{latest_length}
 use Rattle.search.specs.Search.{Setting, whole, vector, undecided, decide, first_vector}
 use Rattle.search.specs.Turns.{next_setting, turns, go_on}
 use Rattle.search.specs.Turns.Progress.{looking}
@@ -19,7 +16,7 @@ use Rattle.search.specs.Walk.{left_at}
 use Rattle.search.proofs.Settings.{whole_vector, vector_agrees, agrees_length}
 use Rattle.search.proofs.Searching.{few_looks}
 use Rattle.search.proofs.Turning.{one_more, still_looking, over_so_far, over_length, exact_end, turn_cut, turn_open}
-use Rattle.seeking.specs.Seeking.{settle_time, line_latest, latest_time, cuts, seek_search}
+use Rattle.seeking.specs.Seeking.{settle_time, latest_time, cuts, seek_search}
 use Rattle.seeking.specs.Outcomes.{time_found, LookedFor}
 use Rattle.seeking.proofs.Instance.{deciding}
 
@@ -84,12 +81,3 @@ module _ {Time : Type 0} (kind : Kind Time) (laws : Laws kind) (lines : List Lin
           setting_is = a ∙ ap (λ x. left_at x ties) (sym done.1);
           looks_are = sym done.0;
         }
-
--- what the work places hold at a line once all latest times are written
-pub line_written : {Time : Type 0} (kind : Kind Time) (laws : Laws kind) (lines : List Line) (ties setting : Setting) (line : ℕ) → line < length lines → (work further : List (Latest Time)) → work ≡ latest kind (tied_by ties) lines (in_setting setting) ++ further → (read : Latest Time) → read ≡ get_or work line read → read ≡ line_latest kind lines ties line setting
-line_written kind laws lines ties setting line present work further e read is =
-    let all = latest kind (tied_by ties) lines (in_setting setting) in
-    let long = latest_length kind laws (tied_by ties) lines (in_setting setting) in
-    let within : line < length all = omega (arith, long) in
-    let is_left : read ≡ get_or all line read = is ∙ ap (λ w. get_or w line read) e ∙ get_or_append_left all further read line within in
-    get_or_read all line read within is_left no_latest

@@ -4,4 +4,5 @@
 pub mod line;
 pub mod seek;
 pub mod stands;
+pub mod target;
 pub mod worst;

@@ -1,14 +1,13 @@
 // The search for a vector that settles a line to a value at or after a bound.
-ghost use Rattle.std.specs.Prelude.{◌≡◌, ◌<◌, ◌≤◌, not, length};
+ghost use Rattle.std.specs.Prelude.{◌≡◌, ◌≤◌, not, length};
 ghost use Rattle.lines.specs.Limits.{max_inputs};
-ghost use Rattle.lines.specs.Lines.{Lawful, inputs};
+ghost use Rattle.lines.specs.Lines.{inputs};
 ghost use Rattle.settling.specs.Latest.{cut};
 ghost use Rattle.search.specs.Search.{undecided};
 ghost use Rattle.seeking.specs.Seeking.{seek_search};
 ghost use Rattle.seeking.specs.Outcomes.{LookedFor};
 
-use crate::line::latest_at;
-use lines::line::Line;
+use crate::target::Target;
 use search::walk::{next_open, pass};
 use settling::latest::Latest;
 use times::time::Time;
@@ -17,10 +16,7 @@ use times::time::Time;
 fn reaches<T: Time>(late: Option<T>, bound: T) -> bool
     ensures { result ≡ not (cut T.kind bound late) }
 {
-    match late {
-        None => false,
-        Some(late) => bound.at_or_before(late),
-    }
+    late.is_some_and(|late| bound.at_or_before(late))
 }
 
 // What a search comes to: the line's settle time under the vector found, or none, and how many settings were tested.
@@ -30,36 +26,34 @@ pub struct Looked<T> {
     pub looks: u32,
 }
 
-// The search from the ties. Where it finds a vector, the setting decides every input so; else it is the ties again.
-pub fn look_for<T: Time>(
-    lines: &[Line],
-    line: usize,
-    value: bool,
-    bound: T,
-    ties: &[Option<bool>],
-    setting: &mut [Option<bool>],
-    work: &mut [Latest<T>],
-) -> Looked<T>
-    requires lawful { Lawful lines.now }
-    requires inputs { length ties.now ≡ inputs lines.now }
-    requires few { undecided ties.now ≤ max_inputs }
-    requires start { setting.old ≡ ties.now }
-    requires room { length lines.now ≤ length work.old }
-    requires present { line < length lines.now }
-    ensures { LookedFor T.kind lines.now ties.now line (seek_search T.kind lines.now ties.now line value bound) setting.new result.found result.looks }
-{
-    let mut looks: u32 = 0;
-    'looking: loop {
-        looks += 1;
-        let late = latest_at(lines, ties, line, value, setting, work);
-        if reaches(late, bound) {
-            let next = next_open(setting);
-            if next == setting.len() {
-                return Looked { found: late, looks };
+impl Target<'_> {
+    // The search from the ties. Where it finds a vector, the setting decides every input so; else it is the ties again.
+    pub fn look_for<T: Time>(
+        self,
+        value: bool,
+        bound: T,
+        setting: &mut [Option<bool>],
+        work: &mut [Latest<T>],
+    ) -> Looked<T>
+        requires inputs { length self.network.ties.now ≡ inputs self.network.lines.now }
+        requires few { undecided self.network.ties.now ≤ max_inputs }
+        requires start { setting.old ≡ self.network.ties.now }
+        requires room { length self.network.lines.now ≤ length work.old }
+        ensures { LookedFor T.kind self.entry.network.lines.now self.entry.network.ties.now self.entry.line (seek_search T.kind self.entry.network.lines.now self.entry.network.ties.now self.entry.line value bound) setting.new result.found result.looks }
+    {
+        let mut looks: u32 = 0;
+        'looking: loop {
+            looks += 1;
+            let late = self.latest_at(value, setting, work);
+            if reaches(late, bound) {
+                let next = next_open(setting);
+                if next == setting.len() {
+                    return Looked { found: late, looks };
+                }
+                setting[next] = Some(false);
+            } else if !pass(self.network.ties, setting) {
+                return Looked { found: None, looks };
             }
-            setting[next] = Some(false);
-        } else if !pass(ties, setting) {
-            return Looked { found: None, looks };
         }
     }
 }
