@@ -83,12 +83,12 @@ impl Pen {
         let pins = &cell.pins[..cell.count];
         if self.depth == 0 {
             at(
-                draft.add_named_cell(family, self.name.as_bytes(), word, cell.delay, pins),
+                draft.add_cell(family, Some(self.name.as_bytes()), word, cell.delay, pins),
                 cell.place,
             )?;
             return Ok(());
         }
-        let line = at(draft.add_cell(family, word, cell.delay, pins), cell.place)?;
+        let line = at(draft.add_cell(family, None, word, cell.delay, pins), cell.place)?;
         self.add_pin(line);
         Ok(())
     }

@@ -1,9 +1,11 @@
 -- The first line of a name. Assumes nothing.
-use Rattle.std.proofs.Common.{◌≡◌, ℕ, zero, suc, ◌+◌, ◌<◌, ◌≤◌, Bool, true, false, cond, List, [], ◌∷◌, length, get_or, drop, Some, None, Option, sym, refl, ap, ◌∙◌, subst, add-one, arith, MatchOption}
-use Rattle.std.proofs.lemmas.List.{at_drop_more, at_drop_all}
+use Rattle.std.proofs.Common.{◌≡◌, ℕ, zero, suc, ◌+◌, ◌<◌, Bool, true, false, cond, List, [], ◌∷◌, map, Some, None, Option, sym, refl, ap, ◌∙◌, subst, add-one, arith, MatchOption}
+use Rattle.std.specs.List.{position_from}
 use Rattle.std.proofs.lemmas.Bool.{both_ways}
+use Rattle.names.specs.Kept.{bytes_of}
 use Rattle.names.specs.Names.{same_word}
-use Rattle.network.specs.Sketches.{Named, FirstNamed, NoneNamed, FirstLine, line_named}
+use Rattle.names.specs.declared.name.Name.{Name}
+use Rattle.network.specs.Sketches.{Named, FirstNamed, NoneNamed, FirstLine, line_named, name_bytes}
 
 abbrev Names : Type 0
 Names = List (Option (List ℕ))
@@ -72,20 +74,14 @@ some_named names name line h = by (line_named 0 name names) refl (first_named na
     by None e t = absurd (t line h)
     by (Some first) e t = (first, e)
 
--- One name after another.
+-- Names as they are kept.
 
-module _ (name : List ℕ) (names : Names) (i : ℕ) (l : i < length names) where
-  at_name : (own : Option (List ℕ)) → get_or names i None ≡ own → line_named i name (drop i names) ≡ line_named i name (own ∷ drop (i + 1) names)
-  at_name own e = at_drop_more (line_named i name) names i None l ∙ ap (λ v. line_named i name (v ∷ drop (i + 1) names)) e
+-- whether a line that is called so, or has no name, has the name
+abbrev pub has_name : List ℕ → Option Name → Bool
+has_name name None = false
+has_name name (Some own) = same_word name (bytes_of own)
 
-  pub named_none : get_or names i None ≡ None → line_named (i + 1) name (drop (i + 1) names) ≡ line_named i name (drop i names)
-  named_none e = sym (at_name None e ∙ ap (λ k. line_named k name (drop (i + 1) names)) (sym (add-one i)))
-
-  pub named_other : (own : List ℕ) → get_or names i None ≡ Some own → same_word name own ≡ false → line_named (i + 1) name (drop (i + 1) names) ≡ line_named i name (drop i names)
-  named_other own e t = sym (at_name (Some own) e ∙ ap (λ v. cond v (Some i) (line_named (suc i) name (drop (i + 1) names))) t ∙ ap (λ k. line_named k name (drop (i + 1) names)) (sym (add-one i)))
-
-  pub named_here : (own : List ℕ) → get_or names i None ≡ Some own → same_word name own ≡ true → line_named i name (drop i names) ≡ Some i
-  named_here own e t = at_name (Some own) e ∙ ap (λ v. cond v (Some i) (line_named (suc i) name (drop (i + 1) names))) t
-
-pub named_end : (name : List ℕ) (names : Names) (i : ℕ) → length names ≤ i → line_named i name (drop i names) ≡ None
-named_end name names i l = at_drop_all (line_named i name) names i l
+pub first_from : (name : List ℕ) (names : List (Option Name)) (i : ℕ) → position_from (has_name name) i names ≡ line_named i name (map name_bytes names)
+first_from name [] i = refl
+first_from name (None ∷ names) i = first_from name names (i + 1) ∙ ap (λ k. line_named k name (map name_bytes names)) (add-one i)
+first_from name (Some own ∷ names) i = ap (λ v. cond (same_word name (bytes_of own)) (Some i) v) (first_from name names (i + 1) ∙ ap (λ k. line_named k name (map name_bytes names)) (add-one i))

@@ -1,11 +1,9 @@
 // Lines added to a draft.
-ghost use Rattle.std.specs.Prelude.{◌≡◌, ℕ, ◌^◌, ◌<◌, ◌≤◌, true, length, Some, None, vec_len, MatchBool, slice_index};
+ghost use Rattle.std.specs.Prelude.{◌≡◌, ℕ, ◌^◌, ◌<◌, ◌≤◌, length, vec_len, IfOk, MatchBool, option_copied, slice_index};
 ghost use Rattle.lines.specs.Limits.{max_delay, max_inputs, max_lines, max_pins};
 ghost use Rattle.names.specs.Kept.{bytes_of};
-ghost use Rattle.names.specs.Names.{lawful_word};
 ghost use Rattle.network.specs.Drafts.{sketch, InputAdd, CellAdd};
-ghost use Rattle.network.specs.Least.{NothingWrong};
-ghost use Rattle.network.specs.Refusals.{LabelWrong};
+ghost use Rattle.network.specs.Refusals.{Checked, LabelWrong};
 ghost use Rattle.network.specs.Sketches.{name_bytes, places, with_input, with_cell};
 
 use crate::checks::check_delay;
@@ -21,12 +19,7 @@ use names::name::Name;
 fn are_below(pins: &[usize], line: usize) -> bool
     ensures { MatchBool result ((k : ℕ) → k < length pins.now → slice_index pins.now k < line) ((k : ℕ) × (k < length pins.now) × (line ≤ slice_index pins.now k)) }
 {
-    for pin in pins {
-        if *pin >= line {
-            return false;
-        }
-    }
-    true
+    pins.iter().all(|pin| *pin < line)
 }
 
 // The pins in a cell's places.
@@ -35,9 +28,7 @@ fn placed(pins: &[usize]) -> [usize; MAX_PINS]
     ensures { result ≡ places pins.now }
 {
     let mut all = [0; MAX_PINS];
-    for i in 0..pins.len() {
-        all[i] = pins[i];
-    }
+    all[..pins.len()].copy_from_slice(pins);
     all
 }
 
@@ -92,53 +83,33 @@ impl Draft {
         Ok(line)
     }
 
-    // Adds a cell without a name, and answers the number of its line.
+    // The name of a new line as it is kept, if the line has one and can have it.
+    fn kept_name(&self, name: Option<&[u8]>) -> Result<Option<Name>, DraftFault>
+        ensures checked { Checked (LabelWrong (sketch self.now) (option_copied name.entry)) result }
+        ensures kept { IfOk result (λ kept. name_bytes kept ≡ option_copied name.entry) }
+    {
+        let Some(bytes) = name else {
+            return Ok(None);
+        };
+        self.check_name(bytes)?;
+        Ok(Some(Name::of(bytes)))
+    }
+
+    // Adds a cell, and its name, if it has one, and answers the number of its line.
     pub fn add_cell<F: Family>(
         &mut self,
         family: &F,
+        name: Option<&[u8]>,
         word: &[u8],
         delay: u32,
         pins: &[usize],
     ) -> Result<usize, DraftFault>
-        ensures { CellAdd (F.Family.assigns family.now) self.old self.new None word.now delay pins.now result }
+        ensures { CellAdd (F.Family.assigns family.now) self.old self.new (option_copied name.entry) word.now delay pins.now result }
     {
         if !is_cell_word(word) {
             return Err(DraftFault::Unlawful);
         }
-        self.add_labelled(family, None, word, delay, pins)
-    }
-
-    // Adds a cell with a name, and answers the number of its line.
-    pub fn add_named_cell<F: Family>(
-        &mut self,
-        family: &F,
-        name: &[u8],
-        word: &[u8],
-        delay: u32,
-        pins: &[usize],
-    ) -> Result<usize, DraftFault>
-        ensures { CellAdd (F.Family.assigns family.now) self.old self.new (Some name.now) word.now delay pins.now result }
-    {
-        if !is_cell_word(word) {
-            return Err(DraftFault::Unlawful);
-        }
-        self.check_name(name)?;
-        self.add_labelled(family, Some(Name::of(name)), word, delay, pins)
-    }
-
-    // Adds a cell whose word was checked, and its name, if it has one.
-    fn add_labelled<F: Family>(
-        &mut self,
-        family: &F,
-        name: Option<Name>,
-        word: &[u8],
-        delay: u32,
-        pins: &[usize],
-    ) -> Result<usize, DraftFault>
-        requires lawful { lawful_word word.now ≡ true }
-        requires free { NothingWrong (LabelWrong (sketch self.old) (name_bytes name)) }
-        ensures { CellAdd (F.Family.assigns family.now) self.old self.new (name_bytes name) word.now delay pins.now result }
-    {
+        let kept = self.kept_name(name)?;
         let Some(table) = family.table(word, pins.len()) else {
             return Err(DraftFault::NoTable);
         };
@@ -150,7 +121,7 @@ impl Draft {
         if !are_below(pins, line) {
             return Err(DraftFault::PinNotBelow);
         }
-        self.push_cell(name, table, delay, pins);
+        self.push_cell(kept, table, delay, pins);
         Ok(line)
     }
 }

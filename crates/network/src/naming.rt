@@ -9,12 +9,5 @@ use names::name::Name;
 pub(crate) fn find_line(names: &[Option<Name>], name: &[u8]) -> Option<usize>
     ensures { result ≡ line_named 0 name.now (map name_bytes names.now) }
 {
-    for (i, kept) in names.iter().enumerate() {
-        if let Some(own) = kept {
-            if is_same_word(name, own.as_bytes()) {
-                return Some(i);
-            }
-        }
-    }
-    None
+    names.iter().position(|kept| kept.is_some_and(|own| is_same_word(name, own.as_bytes())))
 }

@@ -7,6 +7,7 @@ use lines::line::Line;
 use names::name::Name;
 
 // A sealed draft: no line is added any more, and at least one is an input.
+// Lines and names are two lists and not one of pairs: a study takes the list of lines over as it is.
 #[derive(Drop)]
 pub struct Network {
     pub lines: Vec<Line>,

@@ -27,11 +27,7 @@ impl Network {
     pub fn name_of(&self, line: usize) -> Option<Name>
         ensures { name_bytes result ≡ slice_index_or (sealed self.now).names line None }
     {
-        if line < self.names.len() {
-            self.names[line]
-        } else {
-            None
-        }
+        self.names.get(line).copied().flatten()
     }
 
     // The number of the first line of that name.

@@ -69,11 +69,14 @@ fn lines_to_the_last(rt: HostRuntime) -> Result<(), Fail> {
     draft.add_input(b"a", 1)?;
     for i in 1..MAX_LINES {
         assert_eq!(rt;
-            draft.add_cell(&library, b"maj", 1, &[0, i - 1, i - 1]),
+            draft.add_cell(&library, None, b"maj", 1, &[0, i - 1, i - 1]),
             Ok(i)
         );
     }
-    assert_eq!(rt; refusal(draft.add_cell(&library, b"maj", 1, &[0, 0, 0])), 6);
+    assert_eq!(rt;
+        refusal(draft.add_cell(&library, None, b"maj", 1, &[0, 0, 0])),
+        6
+    );
     assert_eq!(rt; refusal(draft.add_input(b"b", 1)), 6);
     draft.check_seal()?;
     assert_eq!(rt; draft.seal().line_count(), MAX_LINES);
@@ -97,7 +100,10 @@ fn pins_at_their_edges(rt: HostRuntime) -> Result<(), Fail> {
         (&[0, 3, 0][..], 10),
         (&[0, 1, 1][..], 0),
     ] {
-        assert_eq!(rt; refusal(draft.add_cell(&library, b"mux", 1, pins)), number);
+        assert_eq!(rt;
+            refusal(draft.add_cell(&library, None, b"mux", 1, pins)),
+            number
+        );
     }
     assert_eq!(rt; refusal(draft.add_input(b"c", 1)), 8);
     Ok(())
@@ -113,27 +119,27 @@ fn least_number(rt: HostRuntime) -> Result<(), Fail> {
     assert_eq!(rt; refusal(draft.add_input(b"a", MAX_DELAY + 1)), 2);
     assert_eq!(rt; refusal(draft.add_input(b"b", MAX_DELAY + 1)), 5);
     assert_eq!(rt;
-        refusal(draft.add_named_cell(&library, b"a", b"*", 1, &[])),
+        refusal(draft.add_cell(&library, Some(b"a"), b"*", 1, &[])),
         1
     );
     assert_eq!(rt;
-        refusal(draft.add_named_cell(&library, b"A", b"maj", 1, &[])),
+        refusal(draft.add_cell(&library, Some(b"A"), b"maj", 1, &[])),
         1
     );
     assert_eq!(rt;
-        refusal(draft.add_named_cell(&library, b"a", b"maj", 1, &[])),
+        refusal(draft.add_cell(&library, Some(b"a"), b"maj", 1, &[])),
         2
     );
     assert_eq!(rt;
-        refusal(draft.add_named_cell(&library, b"b", b"maj", MAX_DELAY + 1, &[1])),
+        refusal(draft.add_cell(&library, Some(b"b"), b"maj", MAX_DELAY + 1, &[1])),
         4
     );
     assert_eq!(rt;
-        refusal(draft.add_named_cell(&library, b"b", b"maj", MAX_DELAY + 1, &[1, 1, 1])),
+        refusal(draft.add_cell(&library, Some(b"b"), b"maj", MAX_DELAY + 1, &[1, 1, 1])),
         5
     );
     assert_eq!(rt;
-        refusal(draft.add_named_cell(&library, b"b", b"maj", 1, &[1, 1, 1])),
+        refusal(draft.add_cell(&library, Some(b"b"), b"maj", 1, &[1, 1, 1])),
         10
     );
     Ok(())
@@ -149,8 +155,8 @@ fn sealing(rt: HostRuntime) -> Result<(), Fail> {
     draft.clear();
     assert_eq!(rt; refusal(draft.check_seal()), 9);
     draft.add_input(b"a", 1)?;
-    draft.add_cell(&library, b"maj", 1, &[0, 0, 0])?;
-    draft.add_named_cell(&library, b"out", b"maj", 1, &[0, 1, 0])?;
+    draft.add_cell(&library, None, b"maj", 1, &[0, 0, 0])?;
+    draft.add_cell(&library, Some(b"out"), b"maj", 1, &[0, 1, 0])?;
     draft.check_seal()?;
     let network = draft.seal();
     assert_eq!(rt; network.line_count(), 3);
