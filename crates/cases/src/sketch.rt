@@ -39,14 +39,13 @@ impl Sketch {
         family: &Catalogue,
         cell: &CellStep,
     ) -> Result<String, AllocError> {
-        let outcome = match &cell.name {
-            None => self
-                .draft
-                .add_cell(family, &cell.word, cell.delay, &cell.pins),
-            Some(name) => self
-                .draft
-                .add_named_cell(family, name, &cell.word, cell.delay, &cell.pins),
-        };
+        let outcome = self.draft.add_cell(
+            family,
+            cell.name.as_deref(),
+            &cell.word,
+            cell.delay,
+            &cell.pins,
+        );
         added(heap, outcome)
     }
 
