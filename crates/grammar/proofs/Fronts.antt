@@ -1,19 +1,25 @@
 -- The words at the front of a text. Assumes nothing.
 use Rattle.std.proofs.Common.{◌≡◌, ℕ, zero, suc, ◌+◌, ◌-◌, ◌<◌, ◌≤◌, Bool, true, false, cond, eqb, leb, ◌⊎◌, List, [], ◌∷◌, length, get_or, take, drop, Some, None, sym, refl, ap, ◌∙◌, subst, inl, inr, add-one, arith, eq-eqb, eqb-true, le-leb}
+use Rattle.std.specs.List.{prefix_len}
 use Rattle.names.specs.Names.{letter, digit, name_byte, star}
-use Rattle.sheets.specs.Sheet.{Each, Name, CellWord, Delay}
+use Rattle.sheets.specs.Sheet.{Name, CellWord, Delay}
 use Rattle.sheets.specs.Recogniser.{Item, Outcome, step, open_brackets, outcome, may_end}
 use Rattle.grammar.specs.Fronts.{Front, WordFront, NoWordFront}
 use Rattle.sheets.proofs.Complete.{goes, taken, left}
 use Rattle.sheets.proofs.Letters.{Starred, name_made, word_made}
 
-each_suc : (test : ℕ → Bool) (s : List ℕ) (n : ℕ) → n < length s → Each test (take n s) → test (get_or s n 0) ≡ true → Each test (take (suc n) s)
-each_suc test [] n l a h = absurd (omega arith)
-each_suc test (b ∷ bs) zero l a h = (h, tt)
-each_suc test (b ∷ bs) (suc n) l a h = (a.0, each_suc test bs n (omega arith) a.1 h)
-
-pub each_more : (test : ℕ → Bool) (s : List ℕ) (n : ℕ) → n < length s → Each test (take n s) → test (get_or s n 0) ≡ true → Each test (take (n + 1) s)
-each_more test s n l a h = subst (λ k. Each test (take k s)) (sym (add-one n)) (each_suc test s n l a h)
+-- those of the first few that pass, counted up to the first that does not
+pub front_of : (test : ℕ → Bool) (most : ℕ) (s : List ℕ) → Front test most s (prefix_len test (take most s))
+front_of test zero s = record { within = omega arith; few = omega arith; all = tt; stops = λ l m. absurd (omega arith) }
+front_of test (suc k) [] = record { within = omega arith; few = omega arith; all = tt; stops = λ l m. absurd (omega arith) }
+front_of test (suc k) (b ∷ bs) = by (test b) refl (front_of test k bs)
+  where
+    by : (t : Bool) → test b ≡ t → Front test k bs (prefix_len test (take k bs)) → Front test (suc k) (b ∷ bs) (cond t (1 + prefix_len test (take k bs)) 0)
+    by false e f = record { within = omega arith; few = omega arith; all = tt; stops = λ l m. e }
+    by true e f =
+        let n = prefix_len test (take k bs) in
+        let same : suc n ≡ 1 + n = omega arith in
+        subst (Front test (suc k) (b ∷ bs)) same (record { within = omega (arith, f.within); few = omega (arith, f.few); all = (e, f.all); stops = λ l m. f.stops (omega arith) (omega arith) })
 
 -- the tail of a front
 front_tail : (test : ℕ → Bool) (k : ℕ) (b : ℕ) (bs : List ℕ) (r : ℕ) → Front test (suc k) (b ∷ bs) (suc r) → Front test k bs r

@@ -1,13 +1,17 @@
 -- How readings follow one another: what was read, and what the recogniser then still has to read. Assumes nothing.
-use Rattle.std.proofs.Common.{◌≡◌, ℕ, ◌+◌, ◌-◌, ◌<◌, ◌≤◌, Bool, true, false, eqb, List, [], ◌∷◌, ◌++◌, length, get_or, take, drop, IsErrAnd, Some, None, Ok, Err, Result, sym, refl, ap, ◌∙◌, subst, append_assoc, append-nil, arith, length-append, length-drop, take-append-drop, eq-eqb, eqb-true, MatchResult}
-use Rattle.std.proofs.lemmas.List.{drop-drop, drop_more, drop_all, length-take-le}
+use Rattle.std.proofs.Common.{◌≡◌, ℕ, zero, suc, ◌+◌, ◌-◌, ◌<◌, ◌≤◌, Bool, true, false, eqb, List, [], ◌∷◌, ◌++◌, length, get_or, take, drop, IsErrAnd, Some, None, Ok, Err, Result, sym, refl, ap, ◌∙◌, subst, append_assoc, append-nil, arith, Bor, length-append, length-drop, take-append-drop, eq-eqb, eqb-true, MatchResult}
+use Rattle.std.proofs.lemmas.Result.{MatchResult-weaker, MatchResult-at_ok, MatchResult-at_err}
+use Rattle.std.proofs.lemmas.List.{drop-drop, drop_more, length-take-le}
 use Rattle.sheets.specs.Words.{SheetWord}
 use Rattle.sheets.specs.Recogniser.{Item, Outcome, step, open_brackets, outcome, may_end, bytes_then}
 use Rattle.sheets.proofs.Complete.{goes, taken, left, bytes_run}
 use Rattle.grammar.specs.declared.fault.GrammarFault.{GrammarFault}
 use Rattle.grammar.specs.declared.fault.GrammarFault.TheVariants.{Broken}
-use Rattle.grammar.specs.Fronts.{WordFront, NoWordFront}
-use Rattle.grammar.specs.Readings.{At, rest, Took, NextIs, SecondIs, out, Ends, NotHere, WordRead}
+use Rattle.grammar.specs.declared.word.Word.{Word}
+use Rattle.grammar.specs.Fronts.{ByteFront, WordFront, NoWordFront}
+use Rattle.grammar.specs.Readers.{WordKept}
+use Rattle.grammar.specs.Views.{view}
+use Rattle.grammar.specs.Readings.{At, rest, Took, NextIs, out, Ends, NotHere, WordRead}
 use Rattle.grammar.proofs.Fronts.{broken_here, broken_end}
 
 -- what the exit of a `?` returns
@@ -21,35 +25,8 @@ not_eqb : (c b : ℕ) (u : Bool) → eqb c b ≡ u → (c ≡ b → ⊥) → eqb
 not_eqb c b true e n = absurd (n (eqb-true c b e))
 not_eqb c b false e n = e
 
-head_is : (c d : ℕ) (xs ys : List ℕ) → c ∷ xs ≡ d ∷ ys → c ≡ d
-head_is c d xs ys e = cc
-
-pub next_is : (b : ℕ) (a : At) (t : Bool) → a.place < length a.text → eqb (get_or a.text a.place 0) b ≡ t → NextIs b a t
-next_is b a true l e = (drop (a.place + 1) a.text, drop_more a.text a.place 0 l ∙ ap (λ v. v ∷ drop (a.place + 1) a.text) (eqb-true _ b e))
-next_is b a false l e = λ xs r.
-    let same : get_or a.text a.place 0 ≡ b = head_is _ b _ xs (sym (drop_more a.text a.place 0 l) ∙ r) in
-    let z : true ≡ false = sym (eq-eqb _ b same) ∙ e in let y : ◌≡◌ {A = ℕ} 0 1 = cc in omega arith
-
-pub none_next : (b : ℕ) (a : At) → length a.text ≤ a.place → NextIs b a false
-none_next b a l xs r = let none : [] ≡ b ∷ xs = sym (drop_all a.place a.text l) ∙ r in let y : ◌≡◌ {A = ℕ} 0 1 = cc in omega arith
-
-pub second_is : (b : ℕ) (a : At) (t : Bool) → a.place + 1 < length a.text → eqb (get_or a.text (a.place + 1) 0) b ≡ t → SecondIs b a t
-second_is b a true l e =
-    (get_or a.text a.place 0, (drop (a.place + 1 + 1) a.text, drop_more a.text a.place 0 (omega arith) ∙ ap (λ v. get_or a.text a.place 0 ∷ v) (drop_more a.text (a.place + 1) 0 l ∙ ap (λ v. v ∷ drop (a.place + 1 + 1) a.text) (eqb-true _ b e))))
-second_is b a false l e = λ c xs r.
-    let later : drop (a.place + 1) a.text ≡ b ∷ xs = let more = drop_more a.text a.place 0 (omega arith) in let both = sym more ∙ r in cc in
-    let same : get_or a.text (a.place + 1) 0 ≡ b = head_is _ b _ xs (sym (drop_more a.text (a.place + 1) 0 l) ∙ later) in
-    let z : true ≡ false = sym (eq-eqb _ b same) ∙ e in let y : ◌≡◌ {A = ℕ} 0 1 = cc in omega arith
-
-pub none_second : (b : ℕ) (a : At) → length a.text ≤ a.place + 1 → SecondIs b a false
-none_second b a l c xs r = omega (arith, ap length r, length-drop a.place a.text)
-
 pub next_there : (b : ℕ) (a : At) → NextIs b a true → a.place + 1 ≤ length a.text
 next_there b a (xs, r) = omega (arith, ap length r, length-drop a.place a.text)
-
--- the part of the text that the next byte is
-pub next_part : (b : ℕ) (a : At) → NextIs b a true → take (a.place + 1 - a.place) (rest a) ≡ b ∷ []
-next_part b a (xs, r) = let one : a.place + 1 - a.place ≡ 1 = omega arith in ap (λ n. take n (rest a)) one ∙ ap (take 1) r
 
 -- What was taken.
 
@@ -132,24 +109,63 @@ road_stop {still = still} {a = a} {m = m} f road ends s ok = ends_as a.text f _ 
 
 -- Words.
 
-pub word_read : (Is : List ℕ → Type 0) (i : Item) (make : List ℕ → ℕ → SheetWord) (a b : At) (n : ℕ) (s : List ℕ) → a.place ≤ length a.text → s ≡ rest a → WordFront Is i s n → b.text ≡ a.text → b.place ≡ a.place + n → b.words ≡ a.words ++ (make (take (a.place + n - a.place) (rest a)) a.place ∷ []) → WordRead Is i make a b
-word_read Is i make a b n s within e front text on kept =
-    let h : WordFront Is i (rest a) n = subst (λ v. WordFront Is i v n) e front in
-    let there : a.place + n ≤ length a.text = omega (arith, h.0, length-drop a.place a.text) in
-    let so_many : a.place + n - a.place ≡ n = omega arith in
-    let onward : drop n (rest a) ≡ rest b = drop-drop n a.place a.text ∙ ap (λ p. drop p a.text) (sym on) ∙ ap (drop b.place) (sym text) in
-    record {
-      bytes = take n (rest a);
-      lawful = h.1;
-      took = took_front a b n (make (take n (rest a)) a.place) there text on (kept ∙ ap (λ k. a.words ++ (make (take k (rest a)) a.place ∷ [])) so_many);
-      moves = λ t ok. h.2 t ok ∙ ap (outcome 9 (Some t)) onward;
-    }
-
 pub word_fails : (i : Item) (a : At) (k : ℕ) (s : List ℕ) → a.place ≤ length a.text → s ≡ rest a → NoWordFront i s k → (t : List Item) → open_brackets t ≤ 9 → Ends a.text (Broken (a.place + k)) (out (i ∷ t) a)
 word_fails i a k s within e front t ok =
     let h : NoWordFront i (rest a) k = subst (λ v. NoWordFront i v k) e front in
     let long = length-drop a.place a.text in
     (omega (arith, h.0, long), h.1 t ok ∙ ap Outcome.broken (omega (arith, long)))
+
+abbrev Made : Type 1
+Made = Bor (List ℕ) → ℕ → Word → Type 0
+
+-- what was found at the front, kept as a word, or where a word breaks
+abbrev Found : {X : Type 0} → Made → Result ℕ ℕ → At → At → Result X GrammarFault → Type 0
+Found M found a b r = MatchResult r (λ _. (len : ℕ) × (found ≡ Ok len) × WordKept M len a b) (λ f. (most : ℕ) × (found ≡ Err most) × (f ≡ Broken (a.place + most)))
+
+module _ (M : Made) (make : List ℕ → ℕ → SheetWord) (a b : At) (is : (part : Bor (List ℕ)) (w : Word) → M part a.place w → view w ≡ make part.now a.place) (s : List ℕ) (e : s ≡ rest a) (found : Result ℕ ℕ) where
+  kept_as : (n : ℕ) → WordKept M n a b → Took (take n (rest a)) (make (take n (rest a)) a.place ∷ []) a b
+  kept_as n h = took_as refl (ap (λ w. w ∷ []) (is h.part h.word h.made ∙ ap (λ v. make v a.place) h.is)) h.took
+
+  pub word_found : (Is : List ℕ → Type 0) (i : Item) {X : Type 0} (r : Result X GrammarFault) → a.place ≤ length a.text → MatchResult found (WordFront Is i s) (NoWordFront i s) → Found M found a b r → MatchResult r (λ _. WordRead Is i make a b) (λ f. (t : List Item) → open_brackets t ≤ 9 → Ends a.text f (out (i ∷ t) a))
+  word_found Is i r within front h =
+      MatchResult-weaker r h (λ _ k. read k.0 (MatchResult-at_ok _ _ k.0 k.1 front) k.2)
+      (λ f k t ok. subst (λ g. Ends a.text g (out (i ∷ t) a)) (sym k.2) (word_fails i a k.0 s within e (MatchResult-at_err _ _ k.0 k.1 front) t ok))
+    where
+      read : (n : ℕ) → WordFront Is i s n → WordKept M n a b → WordRead Is i make a b
+      read n front kept =
+          let h : WordFront Is i (rest a) n = subst (λ v. WordFront Is i v n) e front in
+          let long : length (take n (rest a)) ≡ n = length-take-le n (rest a) h.0 in
+          let on : a.place + n ≡ b.place = omega (arith, kept.took.on, long) in
+          let onward : drop n (rest a) ≡ rest b = drop-drop n a.place a.text ∙ ap (λ p. drop p a.text) on ∙ ap (drop b.place) (sym kept.took.same_text) in
+          record { bytes = take n (rest a); lawful = h.1; took = kept_as n kept; moves = λ t ok. h.2 t ok ∙ ap (outcome 9 (Some t)) onward }
+
+  pub byte_found : (c : ℕ) {X : Type 0} (r : Result X GrammarFault) → ByteFront c s found → Found M found a b r → MatchResult r (λ _. Took (c ∷ []) (make (c ∷ []) a.place ∷ []) a b) (NotHere c a)
+  byte_found c r front h =
+      MatchResult-weaker r h (λ _ k. read k.0 (MatchResult-at_ok _ _ k.0 k.1 front) k.2)
+      (λ f k. let none = MatchResult-at_err _ _ k.0 k.1 front in (k.2 ∙ ap Broken (omega (arith, none.0)), λ xs q. none.1 xs (e ∙ q)))
+    where
+      read : (n : ℕ) → (n ≡ 1) × ((xs : List ℕ) × (s ≡ c ∷ xs)) → WordKept M n a b → Took (c ∷ []) (make (c ∷ []) a.place ∷ []) a b
+      read n front kept =
+          let here : take n (rest a) ≡ c ∷ [] = ap (λ k. take k (rest a)) front.0 ∙ ap (take 1) (sym e ∙ front.1.1) in
+          subst (λ v. Took v (make v a.place ∷ []) a b) here (kept_as n kept)
+
+-- there is so much to keep
+module _ (a : At) (s : List ℕ) (e : s ≡ rest a) (within : a.place ≤ length a.text) (found : Result ℕ ℕ) where
+  abbrev There : Type 0
+  There = MatchResult found (λ n. (1 ≤ n) × (a.place + n ≤ length a.text)) (λ k. a.place + k ≤ length a.text)
+
+  left_over : length s ≡ length a.text - a.place
+  left_over = ap length e ∙ length-drop a.place a.text
+
+  pub word_there : (Is : List ℕ → Type 0) (i : Item) → (Is [] → ⊥) → MatchResult found (WordFront Is i s) (NoWordFront i s) → There
+  word_there Is i none front = MatchResult-weaker found front (λ n h. (some n h.1, omega (arith, h.0, left_over))) (λ k h. omega (arith, h.0, left_over))
+    where
+      some : (n : ℕ) → Is (take n s) → 1 ≤ n
+      some zero h = absurd (none h)
+      some (suc n) h = omega arith
+
+  pub byte_there : (c : ℕ) → ByteFront c s found → There
+  byte_there c front = MatchResult-weaker found front (λ n h. (omega (arith, h.0), omega (arith, h.0, ap length h.1.1, left_over))) (λ k h. omega (arith, h.0))
 
 -- Fixed bytes.
 

@@ -21,8 +21,8 @@ impl GrammarFault {
     {
         match self {
             GrammarFault::TooLong => 6,
-            GrammarFault::Broken { place: _ } => 1,
-            GrammarFault::TooDeep { place: _ } => 7,
+            GrammarFault::Broken { .. } => 1,
+            GrammarFault::TooDeep { .. } => 7,
         }
     }
 
@@ -32,8 +32,7 @@ impl GrammarFault {
     {
         match self {
             GrammarFault::TooLong => MAX_SHEET,
-            GrammarFault::Broken { place } => place,
-            GrammarFault::TooDeep { place } => place,
+            GrammarFault::Broken { place } | GrammarFault::TooDeep { place } => place,
         }
     }
 }

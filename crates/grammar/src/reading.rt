@@ -1,50 +1,59 @@
 // The readers of a sheet's parts. Each moves the reader over its part and keeps the words of it, or says where no sheet is possible.
-ghost use Rattle.std.specs.Prelude.{◌≡◌, ℕ, ◌+◌, ◌<◌, ◌≤◌, List, [], ◌∷◌, ◌++◌, length, codes, MatchResult};
+ghost use Rattle.std.specs.Prelude.{◌≡◌, ℕ, ◌+◌, ◌<◌, ◌≤◌, List, [], ◌∷◌, ◌++◌, length, codes, Ok, Err, MatchResult};
 ghost use Rattle.sheets.specs.Sheet.{Name, CellWord, Delay};
 ghost use Rattle.sheets.specs.Words.{SheetWord, closes};
 ghost use Rattle.sheets.specs.Recogniser.{Item, bytes_then, most_open};
-ghost use Rattle.grammar.specs.Readers.{at};
+ghost use Rattle.grammar.specs.Readers.{at, WordKept};
+ghost use Rattle.grammar.specs.declared.fault.GrammarFault.TheVariants.{Broken};
 ghost use Rattle.grammar.specs.Readings.{rest, Took, NextIs, SecondIs, NotHere, Stops, Fails, WordRead, head_items, HeadRead, CellRead, PinRead, PinsRead, end_items, EndRead, input_items, line_items, NoForms, FormRead, AllRead};
 ghost use Rattle.grammar.specs.Views.{opened, view, views};
 
 use crate::fault::GrammarFault;
 use crate::read::MAX_DEPTH;
 use crate::reader::Reader;
-use crate::scan::{cell_word_len, delay_len, name_len};
+use crate::scan::{byte_len, cell_word_len, delay_len, name_len};
 use crate::word::{Opening, Word};
 
 impl<'a> Reader<'a> {
+    // What is not read yet.
+    fn rest(&self) -> &'a [u8]
+        ensures { result.now ≡ rest (at self.now) }
+    {
+        &self.sheet[self.place..]
+    }
+
     // Whether this is the next byte.
     fn next_is(&self, byte: u8) -> bool
         ensures { NextIs byte (at self.now) result }
     {
-        if self.place >= self.sheet.len() {
-            return false;
-        }
-        self.sheet[self.place] == byte
+        self.rest().first() == Some(&byte)
     }
 
     // Whether this is the byte after the next.
     fn second_is(&self, byte: u8) -> bool
         ensures { SecondIs byte (at self.now) result }
     {
-        let second = self.place + 1;
-        if second >= self.sheet.len() {
-            return false;
-        }
-        self.sheet[second] == byte
+        self.rest().get(1) == Some(&byte)
     }
 
-    // Keeps a word, and moves past its bytes.
-    fn keep(&mut self, word: Word<'a>, len: usize)
-        requires some { 1 ≤ len }
-        requires there { self.old.place + len ≤ length self.old.sheet.now }
-        ensures text { (at self.new).text ≡ (at self.old).text }
-        ensures on { (at self.new).place ≡ (at self.old).place + len }
-        ensures kept { (at self.new).words ≡ (at self.old).words ++ (view word.entry ∷ []) }
+    // Keeps the word that is made of the next bytes, as many as were found, and moves past them; or breaks where none could go on.
+    fn word<F: FnOnce(&'a [u8], usize) -> Word<'a>>(
+        &mut self,
+        found: Result<usize, usize>,
+        make: F,
+    ) -> Result<(), GrammarFault>
+        requires there { MatchResult found (λ len. (1 ≤ len) × (self.old.place + len ≤ length self.old.sheet.now)) (λ most. self.old.place + most ≤ length self.old.sheet.now) }
+        requires made { F.IsAlwaysCallable make }
+        ensures { MatchResult result (λ _. (len : ℕ) × (found ≡ Ok len) × WordKept (λ part place word. F.post make part place word) len (at self.old) (at self.new)) (λ f. (most : ℕ) × (found ≡ Err most) × (f ≡ Broken (self.old.place + most))) }
     {
+        let place = self.place;
+        let len = found.map_err(|most| GrammarFault::Broken {
+            place: place + most,
+        })?;
+        let word = make(&self.rest()[..len], place);
         self.words.push_reserved(word);
         self.place += len;
+        Ok(())
     }
 
     // This byte, which is no word.
@@ -62,68 +71,34 @@ impl<'a> Reader<'a> {
     fn opening(&mut self, opens: Opening) -> Result<(), GrammarFault>
         ensures { MatchResult result (λ _. Took (codes "(") (opened opens (codes "(") self.old.place ∷ []) (at self.old) (at self.new)) (λ f. NotHere 40 (at self.old) f) }
     {
-        let at = self.place;
-        if !self.next_is(b'(') {
-            return Err(GrammarFault::Broken { place: at });
-        }
-        let sheet = self.sheet;
-        self.keep(Word::Open(opens, &sheet[at..at + 1], at), 1);
-        Ok(())
+        self.word(byte_len(self.rest(), b'('), |part, place| {
+            Word::Open(opens, part, place)
+        })
     }
 
     // A closing bracket.
     fn close(&mut self) -> Result<(), GrammarFault>
         ensures { MatchResult result (λ _. Took (codes ")") (closes self.old.place ∷ []) (at self.old) (at self.new)) (λ f. NotHere 41 (at self.old) f) }
     {
-        let at = self.place;
-        if !self.next_is(b')') {
-            return Err(GrammarFault::Broken { place: at });
-        }
-        let sheet = self.sheet;
-        self.keep(Word::Close(&sheet[at..at + 1], at), 1);
-        Ok(())
+        self.word(byte_len(self.rest(), b')'), Word::Close)
     }
 
     fn name(&mut self) -> Result<(), GrammarFault>
         ensures { MatchResult result (λ _. WordRead Name Item.name SheetWord.name (at self.old) (at self.new)) (λ f. Fails (λ s. Item.name ∷ s) (at self.old) f) }
     {
-        let at = self.place;
-        let sheet = self.sheet;
-        match name_len(&sheet[at..]) {
-            Ok(n) => {
-                self.keep(Word::Name(&sheet[at..at + n], at), n);
-                Ok(())
-            }
-            Err(k) => Err(GrammarFault::Broken { place: at + k }),
-        }
+        self.word(name_len(self.rest()), Word::Name)
     }
 
     fn cell_word(&mut self) -> Result<(), GrammarFault>
         ensures { MatchResult result (λ _. WordRead CellWord (Item.word 7) SheetWord.cell_word (at self.old) (at self.new)) (λ f. Fails (λ s. Item.word 7 ∷ s) (at self.old) f) }
     {
-        let at = self.place;
-        let sheet = self.sheet;
-        match cell_word_len(&sheet[at..]) {
-            Ok(n) => {
-                self.keep(Word::CellWord(&sheet[at..at + n], at), n);
-                Ok(())
-            }
-            Err(k) => Err(GrammarFault::Broken { place: at + k }),
-        }
+        self.word(cell_word_len(self.rest()), Word::CellWord)
     }
 
     fn delay(&mut self) -> Result<(), GrammarFault>
         ensures { MatchResult result (λ _. WordRead Delay Item.delay SheetWord.delay (at self.old) (at self.new)) (λ f. Fails (λ s. Item.delay ∷ s) (at self.old) f) }
     {
-        let at = self.place;
-        let sheet = self.sheet;
-        match delay_len(&sheet[at..]) {
-            Ok(n) => {
-                self.keep(Word::Delay(&sheet[at..at + n], at), n);
-                Ok(())
-            }
-            Err(k) => Err(GrammarFault::Broken { place: at + k }),
-        }
+        self.word(delay_len(self.rest()), Word::Delay)
     }
 
     // The cell word and the delay of a cell.

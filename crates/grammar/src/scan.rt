@@ -1,41 +1,30 @@
 // The length of the word at the front of a text, or how many bytes one could begin with.
+ghost use Rattle.std.specs.Prelude.{◌≡◌, ℕ, ◌≤◌, Bool};
 ghost use Rattle.std.specs.Result.{MatchResult};
-ghost use Rattle.names.specs.Names.{digit, name_byte, star};
 ghost use Rattle.sheets.specs.Sheet.{Name, CellWord, Delay};
 ghost use Rattle.sheets.specs.Recogniser.{Item};
-ghost use Rattle.grammar.specs.Fronts.{Front, WordFront, NoWordFront};
+ghost use Rattle.grammar.specs.Fronts.{ByteFront, Front, WordFront, NoWordFront};
 
 use names::{is_digit, is_letter, is_name_byte, is_star};
 
-// How many bytes continue a name, at most so many.
-fn name_bytes(s: &[u8], most: usize) -> usize
-    ensures { Front name_byte most s.now result }
+// How many bytes at the front pass the test, at most so many.
+fn front_len<F: Fn(u8) -> bool>(s: &[u8], most: usize, test: F) -> usize
+    requires { F.IsAlwaysCallable test }
+    ensures few { result ≤ most }
+    ensures front { (passes : ℕ → Bool) → ((b : ℕ) (r : Bool) → F.post test b r → r ≡ passes b) → Front passes most s.now result }
 {
-    let mut n = 0;
-    while n < s.len() && n < most && is_name_byte(s[n]) {
-        n += 1;
-    }
-    n
+    s.iter().take(most).take_while(|b| test(**b)).count()
 }
 
-fn digits(s: &[u8], most: usize) -> usize
-    ensures { Front digit most s.now result }
+// The length of this byte, where it is the first.
+pub(crate) fn byte_len(s: &[u8], byte: u8) -> Result<usize, usize>
+    ensures { ByteFront byte s.now result }
 {
-    let mut n = 0;
-    while n < s.len() && n < most && is_digit(s[n]) {
-        n += 1;
+    if s.first() == Some(&byte) {
+        Ok(1)
+    } else {
+        Err(0)
     }
-    n
-}
-
-fn stars(s: &[u8], most: usize) -> usize
-    ensures { Front star most s.now result }
-{
-    let mut n = 0;
-    while n < s.len() && n < most && is_star(s[n]) {
-        n += 1;
-    }
-    n
 }
 
 pub(crate) fn name_len(s: &[u8]) -> Result<usize, usize>
@@ -44,17 +33,17 @@ pub(crate) fn name_len(s: &[u8]) -> Result<usize, usize>
     if s.is_empty() || !is_letter(s[0]) {
         return Err(0);
     }
-    Ok(1 + name_bytes(&s[1..], 7))
+    Ok(1 + front_len(&s[1..], 7, is_name_byte))
 }
 
 pub(crate) fn cell_word_len(s: &[u8]) -> Result<usize, usize>
     ensures { MatchResult result (λ n. WordFront CellWord (Item.word 7) s.now n) (λ k. NoWordFront (Item.word 7) s.now k) }
 {
-    let n = stars(s, 7);
+    let n = front_len(s, 7, is_star);
     if n >= s.len() || !is_letter(s[n]) {
         return Err(n);
     }
-    Ok(n + 1 + name_bytes(&s[n + 1..], 7 - n))
+    Ok(n + 1 + front_len(&s[n + 1..], 7 - n, is_name_byte))
 }
 
 pub(crate) fn delay_len(s: &[u8]) -> Result<usize, usize>
@@ -66,5 +55,5 @@ pub(crate) fn delay_len(s: &[u8]) -> Result<usize, usize>
     if s[0] == b'0' {
         return Ok(1);
     }
-    Ok(1 + digits(&s[1..], 6))
+    Ok(1 + front_len(&s[1..], 6, is_digit))
 }

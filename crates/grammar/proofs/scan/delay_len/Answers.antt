@@ -1,4 +1,5 @@
 use Rattle.std.proofs.Common.{sym, inl, inr, arith, true-eqb, false-eqb}
+use Rattle.names.specs.Names.{digit}
 use Rattle.std.proofs.lemmas.List.{take_rest}
 use Rattle.grammar.proofs.Fronts.{delay_no, delay_zero, delay_more}
 use Rattle.grammar.proofs.scan.delay_len.Goals as goal
@@ -14,4 +15,4 @@ returns-then-s-eq48 c = delay_zero c.args.s.now (omega (arith, false-eqb _ 0 c.i
 
 pub returns : goal.returns
 returns c =
-    delay_more c.args.s.now _ c.digits.result (omega (arith, false-eqb _ 0 c.if-is_empty.ensures)) (sym c.if-not-is_digit.ensures) c.if-s-eq48.false (take_rest c.args.s.now 1) c.digits.ensures
+    delay_more c.args.s.now _ c.front_len.result (omega (arith, false-eqb _ 0 c.if-is_empty.ensures)) (sym c.if-not-is_digit.ensures) c.if-s-eq48.false (take_rest c.args.s.now 1) (c.front_len.ensures.front digit (λ b r k. k))

@@ -1,4 +1,5 @@
 use Rattle.std.proofs.Common.{sym, inl, inr, arith, true-eqb, false-eqb}
+use Rattle.names.specs.Names.{name_byte}
 use Rattle.std.proofs.lemmas.List.{take_rest}
 use Rattle.grammar.proofs.Fronts.{name_no, name_yes}
 use Rattle.grammar.proofs.scan.name_len.Goals as goal
@@ -11,4 +12,4 @@ returns-then-is_empty c =
 
 pub returns : goal.returns
 returns c =
-    name_yes c.args.s.now _ c.name_bytes.result (omega (arith, false-eqb _ 0 c.if-is_empty.ensures)) (sym c.if-not-is_letter.ensures) (take_rest c.args.s.now 1) c.name_bytes.ensures
+    name_yes c.args.s.now _ c.front_len.result (omega (arith, false-eqb _ 0 c.if-is_empty.ensures)) (sym c.if-not-is_letter.ensures) (take_rest c.args.s.now 1) (c.front_len.ensures.front name_byte (λ b r k. k))

@@ -1,19 +1,13 @@
-use Rattle.std.proofs.Common.{◌+◌, ◌≤◌, [], ◌∷◌, ◌++◌, length, ap, ◌∙◌, arith, rules}
+use Rattle.std.proofs.Common.{of_calls, rules}
 use Rattle.sheets.specs.Words.{SheetWord}
 use Rattle.grammar.specs.Readers.{at}
-use Rattle.grammar.proofs.Roads.{took_next, next_part, next_there}
+use Rattle.grammar.proofs.Roads.{byte_found, byte_there}
 use Rattle.grammar.proofs.reader.Reader.close.Goals as goal
 
-pub slice_bounds-keep-end : goal.slice_bounds-keep-end
-slice_bounds-keep-end c =
-    let there : c.args.self.now.place + 1 ≤ length c.args.self.now.sheet.now = next_there 41 (at c.args.self.now) c.if-not-next_is.ensures in
-    search rules
-
-pub keep-requires : goal.keep-requires
-keep-requires c = record { some = omega arith; there = next_there 41 (at c.args.self.now) c.if-not-next_is.ensures }
+pub word-requires : goal.word-requires
+word-requires c =
+    let there = byte_there (at c.args.self.now) _ c.rest.ensures c.args.self.now.within _ 41 c.byte_len.ensures in
+    search (rules, of_calls)
 
 pub returns : goal.returns
-returns c =
-    let a = at c.args.self.now in
-    let next = c.if-not-next_is.ensures in
-    took_next a _ 41 _ next c.keep.ensures.text c.keep.ensures.on (c.keep.ensures.kept ∙ ap (λ part. a.words ++ (SheetWord.close part a.place ∷ [])) (next_part 41 a next))
+returns c = byte_found _ SheetWord.close (at c.args.self.now) _ (λ part w made. search rules) _ c.rest.ensures _ 41 _ c.byte_len.ensures c.word.ensures
