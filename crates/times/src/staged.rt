@@ -6,7 +6,7 @@ ghost use Rattle.times.specs.Clocks.{staged_laws, staged_longer};
 use crate::time::Time;
 
 // Ticks, and the stages passed: each delay adds its ticks and one stage. Times are ordered by ticks, then by stages.
-#[derive(Clone, Copy, Debug, PartialEq, Eq)]
+#[derive(Clone, Copy, Debug, PartialEq, Eq, PartialOrd, Ord)]
 pub struct Staged {
     pub ticks: u64,
     pub stages: u32,
@@ -33,7 +33,7 @@ impl Time for Staged {
         ensures value { result ≡ staged_kind.at_or_before self other }
         ensures order { Decides result (TicksThenStages self other) }
     {
-        self.ticks < other.ticks || (self.ticks == other.ticks && self.stages <= other.stages)
+        self <= other
     }
 
     fn after(self, delay: u32) -> Staged

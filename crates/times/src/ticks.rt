@@ -6,7 +6,7 @@ ghost use Rattle.std.proofs.Common.{rules};
 use crate::time::Time;
 
 // A count of ticks from 0; a sum above the greatest count gives the greatest.
-#[derive(Clone, Copy, Debug, PartialEq, Eq)]
+#[derive(Clone, Copy, Debug, PartialEq, Eq, PartialOrd, Ord)]
 pub struct Ticks {
     pub ticks: u64,
 }
@@ -29,7 +29,7 @@ impl Time for Ticks {
         ensures value { result ≡ ticks_kind.at_or_before self other }
         ensures order { Decides result (self.ticks ≤ other.ticks) }
     {
-        self.ticks <= other.ticks
+        self <= other
     }
 
     fn after(self, delay: u32) -> Ticks
