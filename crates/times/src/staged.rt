@@ -1,9 +1,15 @@
 // Time in ticks and stages.
-ghost use Rattle.std.specs.Prelude.{◌≡◌, Decides};
+ghost use Rattle.std.specs.Prelude.{◌≡◌, Some, Decides};
 ghost use Rattle.times.specs.Kinds.{staged_kind, TicksThenStages, StagedSum};
 ghost use Rattle.times.specs.Clocks.{staged_laws, staged_longer};
+ghost use Rattle.times.specs.Written.{staged_text, ReadsStaged, staged_error_text};
+ghost use Rattle.times.specs.declared.staged.StagedError.TheVariants.{Number};
 
 use crate::time::Time;
+use std::error::Error;
+use std::fmt;
+use std::num::ParseIntError;
+use std::str::FromStr;
 
 // Ticks, and the stages passed: each delay adds its ticks and one stage. Times are ordered by ticks, then by stages.
 #[derive(Clone, Copy, Debug, PartialEq, Eq, PartialOrd, Ord)]
@@ -50,5 +56,80 @@ impl Time for Staged {
                 stages: u32::MAX,
             },
         }
+    }
+}
+
+// As `10:3`.
+impl fmt::Display for Staged {
+    ghost output = { λ t. Some (staged_text t) };
+
+    fn fmt<W: fmt::Write>(&self, f: &mut fmt::Formatter<W>) -> fmt::Result {
+        write!(f, "{}:{}", self.ticks, self.stages)
+    }
+}
+
+// Why a text is no time in ticks and stages.
+#[derive(Clone, Debug, PartialEq, Eq, Drop)]
+pub enum StagedError {
+    NoStages,
+    Number(ParseIntError),
+}
+
+impl From<ParseIntError> for StagedError {
+    ghost from_gives = { λ why e. e ≡ Number why };
+
+    fn from(why: ParseIntError) -> StagedError {
+        StagedError::Number(why)
+    }
+}
+
+impl fmt::Display for StagedError {
+    ghost output = { staged_error_text };
+
+    fn fmt<W: fmt::Write>(&self, f: &mut fmt::Formatter<W>) -> fmt::Result {
+        match self {
+            StagedError::NoStages => write!(f, "a time has no stages"),
+            StagedError::Number(error) => write!(f, "{error}"),
+        }
+    }
+}
+
+impl Error for StagedError {}
+
+impl FromStr for Staged {
+    type Err = StagedError;
+
+    ghost from_str_gives = { ReadsStaged };
+
+    fn from_str(text: &str) -> Result<Staged, StagedError> {
+        let (ticks, stages) = text.split_once(':').ok_or(StagedError::NoStages)?;
+        Ok(Staged {
+            ticks: ticks.parse()?,
+            stages: stages.parse()?,
+        })
+    }
+}
+
+#[cfg(test)]
+mod tests {
+    use super::*;
+    use std::test::Fail;
+
+    #[test]
+    fn stages_are_read_and_printed(rt: HostRuntime) -> Result<(), Fail> {
+        let time: Staged = "10:3".parse()?;
+        assert_eq!(rt;
+            time,
+            Staged {
+                ticks: 10,
+                stages: 3
+            }
+        );
+        assert_eq!(rt; time.to_string(rt.alloc())?.as_str(), "10:3");
+        assert_eq!(rt; "10".parse::<Staged>(), Err(StagedError::NoStages));
+        for text in ["", ":", "10:", ":3", "10:3:1", "10:4294967296"] {
+            assert!(rt; text.parse::<Staged>().is_err());
+        }
+        Ok(())
     }
 }

@@ -1,9 +1,14 @@
 // Time in ticks.
-ghost use Rattle.std.specs.Prelude.{◌≡◌, ◌+◌, ◌≤◌, min, Decides};
+ghost use Rattle.std.specs.Prelude.{◌≡◌, ◌+◌, ◌≤◌, min, Some, Decides};
 ghost use Rattle.times.specs.Kinds.{ticks_kind, greatest_ticks};
+ghost use Rattle.times.specs.Written.{ticks_text, ReadsTicks};
+ghost use Rattle.std.specs.Str.Parse.{ExplainsUnsignedError};
 ghost use Rattle.std.proofs.Common.{rules};
 
 use crate::time::Time;
+use std::fmt;
+use std::num::ParseIntError;
+use std::str::FromStr;
 
 // A count of ticks from 0; a sum above the greatest count gives the greatest.
 #[derive(Clone, Copy, Debug, PartialEq, Eq, PartialOrd, Ord)]
@@ -39,5 +44,45 @@ impl Time for Ticks {
         Ticks {
             ticks: self.ticks.saturating_add(delay as u64),
         }
+    }
+}
+
+// As `5`.
+impl fmt::Display for Ticks {
+    ghost output = { λ t. Some (ticks_text t) };
+
+    fn fmt<W: fmt::Write>(&self, f: &mut fmt::Formatter<W>) -> fmt::Result {
+        write!(f, "{}", self.ticks)
+    }
+}
+
+impl FromStr for Ticks {
+    type Err = ParseIntError;
+
+    ghost from_str_gives = { λ text r. ReadsTicks text r × ExplainsUnsignedError 10 text r };
+
+    fn from_str(text: &str) -> Result<Ticks, ParseIntError> {
+        let ticks = text.parse()?;
+        Ok(Ticks { ticks })
+    }
+}
+
+#[cfg(test)]
+mod tests {
+    use super::*;
+    use std::test::Fail;
+
+    #[test]
+    fn ticks_are_read_and_printed(rt: HostRuntime) -> Result<(), Fail> {
+        let time: Ticks = "18446744073709551615".parse()?;
+        assert_eq!(rt; time, Ticks { ticks: u64::MAX });
+        assert_eq!(rt;
+            time.to_string(rt.alloc())?.as_str(),
+            "18446744073709551615"
+        );
+        for text in ["", "x", "5:1", "18446744073709551616"] {
+            assert!(rt; text.parse::<Ticks>().is_err());
+        }
+        Ok(())
     }
 }
