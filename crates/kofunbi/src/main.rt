@@ -11,18 +11,8 @@ use std::io::{Read, Write};
 // Standard input to its end; a longer input than a sheet can be is read only so far that it is seen to be longer.
 fn read_input(rt: &HostRuntime) -> anyhow::Result<Vec<u8>> {
     let mut sheet = Vec::with_capacity(rt.alloc(), MAX_SHEET + 1)?;
-    let mut input = rt.stdin();
-    let mut part = [0; 4096];
-    for _ in 0..u64::MAX {
-        if sheet.len() > MAX_SHEET {
-            break;
-        }
-        let count = input.read(&mut part)?;
-        if count == 0 {
-            break;
-        }
-        sheet.extend_from_slice(&part[0..count])?;
-    }
+    let most = MAX_SHEET as u64 + 1;
+    rt.stdin().take(most).read_to_end(&mut sheet)?;
     Ok(sheet)
 }
 
