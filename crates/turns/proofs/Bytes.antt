@@ -1,16 +1,11 @@
 -- Vectors as bytes.
-use Rattle.std.proofs.Common.{◌≡◌, ℕ, zero, suc, ◌+◌, ◌<◌, ◌≤◌, Bool, false, List, [], ◌∷◌, ◌++◌, length, get_or, drop, set, Some, None, Option, unwrap_or, sym, refl, ap, ◌∙◌, ⊎_elim, append-nil, arith, drop_of_length-le}
+use Rattle.std.proofs.Common.{◌≡◌, ℕ, zero, suc, ◌+◌, ◌<◌, ◌≤◌, Bool, false, List, [], ◌∷◌, ◌++◌, length, get_or, drop, set, Some, None, Option, unwrap_or, sym, refl, ap, ◌∙◌, append-nil, arith, drop_of_length-le}
 use lib.ListN.{length-map}
-use Rattle.std.proofs.lemmas.List.{get_or_past, get_or-map}
-use Rattle.std.proofs.lemmas.Bool.{cases_lt}
+use Rattle.std.proofs.lemmas.List.{get_or-map}
 use Rattle.settling.proofs.Buffers.{written, written_more, written_all}
 use Rattle.search.specs.Search.{Vector, Setting, vector, whole}
 use Rattle.search.proofs.Settings.{agrees_length, vector_agrees}
 use Rattle.turns.specs.Plain.{byte, bytes, bits, is_one}
-
-pub all_agree : (ties : Setting) (v : List ℕ) (n : ℕ) → length ties ≤ n → ((k : ℕ) (b : Bool) → k < n → get_or ties k None ≡ Some b → get_or v k 0 ≡ byte b) → (k : ℕ) (b : Bool) → get_or ties k None ≡ Some b → get_or v k 0 ≡ byte b
-all_agree ties v n long h k b e =
-    ⊎_elim (λ lt. h k b lt e) (λ ge. let past = get_or_past ties k None (omega arith) in let z : ◌≡◌ {A = ℕ} 0 1 = cc in absurd (omega arith)) (cases_lt k n)
 
 pub vector_length : (s : Setting) → length (vector s) ≡ length s
 vector_length s = agrees_length (vector s) s (vector_agrees s)

@@ -9,22 +9,14 @@ pub fn all_bits(vector: &[u8]) -> bool
     ensures all { result ≡ true → (i : ℕ) → i < length vector.now → slice_index vector.now i ≤ 1 }
     ensures some { result ≡ false → (i : ℕ) × (i < length vector.now) × (1 < slice_index vector.now i) }
 {
-    for i in 0..vector.len() {
-        if vector[i] > 1 {
-            return false;
-        }
-    }
-    true
+    vector.iter().all(|b| *b <= 1)
 }
 
 // A value as a byte; none as 0.
 fn byte_of(value: Option<bool>) -> u8
     ensures { result ≡ byte (unwrap_or value false) }
 {
-    match value {
-        None => 0,
-        Some(one) => { if one { 1 } else { 0 } }
-    }
+    u8::from(value.unwrap_or(false))
 }
 
 // Whether the bytes have the value of each tied input.
@@ -33,15 +25,9 @@ pub fn agrees(ties: &[Option<bool>], vector: &[u8]) -> bool
     ensures all { result ≡ true → (i : ℕ) (b : Bool) → slice_index_or ties.now i None ≡ Some b → slice_index vector.now i ≡ byte b }
     ensures some { result ≡ false → (i : ℕ) × ((b : Bool) × (slice_index_or ties.now i None ≡ Some b) × (slice_index vector.now i ≢ byte b)) }
 {
-    for i in 0..ties.len() {
-        let tie = ties[i];
-        if tie.is_some() {
-            if vector[i] != byte_of(tie) {
-                return false;
-            }
-        }
-    }
-    true
+    ties.iter()
+        .zip(vector)
+        .all(|(tie, b)| tie.is_none_or(|value| *b == u8::from(value)))
 }
 
 // The bytes as values.
@@ -49,8 +35,8 @@ pub fn read_bits(vector: &[u8], values: &mut [bool])
     requires { length values.old ≡ length vector.now }
     ensures { values.new ≡ bits vector.now }
 {
-    for i in 0..vector.len() {
-        values[i] = vector[i] == 1;
+    for (i, b) in vector.iter().enumerate() {
+        values[i] = *b == 1;
     }
 }
 
@@ -59,8 +45,8 @@ pub fn decide_all(values: &[bool], setting: &mut [Option<bool>])
     requires { length setting.old ≡ length values.now }
     ensures { setting.new ≡ whole values.now }
 {
-    for i in 0..values.len() {
-        setting[i] = Some(values[i]);
+    for (i, value) in values.iter().enumerate() {
+        setting[i] = Some(*value);
     }
 }
 
@@ -69,7 +55,7 @@ pub fn write_vector(setting: &[Option<bool>], vector: &mut [u8])
     requires { length setting.now ≤ length vector.old }
     ensures { vector.new ≡ bytes (vector_of setting.now) ++ drop (length setting.now) vector.old }
 {
-    for i in 0..setting.len() {
-        vector[i] = byte_of(setting[i]);
+    for (i, value) in setting.iter().enumerate() {
+        vector[i] = byte_of(*value);
     }
 }

@@ -1,9 +1,7 @@
-// What is proved of runs of calls by themselves. The number means nothing.
+// What is proved of runs of calls by themselves.
 ghost use Rattle.turns.specs.Runs.{AfterOnce};
 
 // The calls so far determine the plain study.
-pub fn determined<T>() -> u8
+pub fn determined<T>()
     ensures { AfterOnce T }
-{
-    0
-}
+{}
