@@ -4,7 +4,7 @@ use Rattle.times.specs.Kind.{Kind}
 use Rattle.settling.specs.declared.latest.Latest.{Latest}
 use Rattle.study.specs.declared.study.Study.{Study}
 use Rattle.study.specs.Standing.{Promises}
-use Rattle.turns.specs.declared.answers.Found.{Found}
+use Rattle.seeking.specs.declared.seek.Looked.{Looked}
 use Rattle.turns.specs.declared.answers.Greatest.{Greatest}
 use Rattle.turns.specs.declared.fault.StudyFault.{StudyFault}
 use Rattle.turns.specs.Asked.{Asked, settle, seek, worst, Told, told_settle, told_seek, told_worst}
@@ -26,7 +26,7 @@ module _ {Time : Type 0} (kind : Kind Time) (before after : Study Time) where
 
   module _ (vector : List ℕ) (work : List (Latest Time)) (seen left held : List ℕ) (seen_work left_work held_work : List (Latest Time))
       (a : seen ≡ vector) (b : held ≡ left) (c : seen_work ≡ work) (d : held_work ≡ left_work) where
-    pub seek_moved : (line value : ℕ) (bound : Time) (outcome : Result (Found Time) StudyFault)
+    pub seek_moved : (line value : ℕ) (bound : Time) (outcome : Result (Looked Time) StudyFault)
         → Promises kind before after (seek line value bound seen seen_work) (told_seek outcome left left_work) → Promises kind before after (seek line value bound vector work) (told_seek outcome held held_work)
     seek_moved line value bound outcome h =
         moved (seek line value bound seen seen_work) (seek line value bound vector work) (told_seek outcome left left_work) (told_seek outcome held held_work)

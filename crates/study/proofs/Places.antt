@@ -62,12 +62,12 @@ pub none_of : (o : Option Bool) (r : Bool) → r ≡ is_some o → r ≡ false �
 none_of (Some b) r e f = let z : ◌≡◌ {A = ℕ} 0 1 = cc in absurd (omega arith)
 none_of None r e f = refl
 
-pub none_of_not : (o : Option Bool) (r : Bool) → is_some o ≡ not r → r ≡ true → o ≡ None
-none_of_not (Some b) r e f = let z : ◌≡◌ {A = ℕ} 0 1 = cc in absurd (omega arith)
+pub none_of_not : {X : Type 0} (o : Option X) (r : Bool) → is_some o ≡ not r → r ≡ true → o ≡ None
+none_of_not (Some x) r e f = let z : ◌≡◌ {A = ℕ} 0 1 = cc in absurd (omega arith)
 none_of_not None r e f = refl
 
-pub some_of_not : (o : Option Bool) (r : Bool) → is_some o ≡ not r → r ≡ false → (b : Bool) × (o ≡ Some b)
-some_of_not (Some b) r e f = (b, refl)
+pub some_of_not : {X : Type 0} (o : Option X) (r : Bool) → is_some o ≡ not r → r ≡ false → (x : X) × (o ≡ Some x)
+some_of_not (Some x) r e f = (x, refl)
 some_of_not None r e f = let z : ◌≡◌ {A = ℕ} 0 1 = cc in absurd (omega arith)
 
 pub cleared_moved : {Time : Type 0} (n m : ℕ) (a a' b b' : List (Option Time)) → n ≡ m → a ≡ a' → b ≡ b' → Cleared n a b → Cleared m a' b'
@@ -89,8 +89,9 @@ pub open_room : (lines places : ℕ) → NothingWrong (OpenWrong lines places) �
 open_room lines places none = ⊎_elim (λ h. absurd (none 14 (OpenWrong.few_ceilings h))) (λ h. h) (cases_lt places (2 * lines))
 
 -- the ceiling as it is read
-pub covers_read : {Time : Type 0} (kind : Kind Time) (study : Study Time) (line value : ℕ) (bound : Time) (seen : Option Time) (r b : Bool) → line < length (plain_of study).lines → value ≤ 1
-    → seen ≡ get_or (ceilings_of study) (place line value) seen → r ≡ covers kind bound seen → r ≡ b → covers kind bound (ceiling study line value) ≡ b
-covers_read kind study line value bound seen r b present bit reads tests is =
+pub covers_read : {Time : Type 0} (kind : Kind Time) (study : Study Time) (line value : ℕ) (bound : Time) (at : ℕ) (seen : Option Time) (r b : Bool) → line < length (plain_of study).lines → value ≤ 1
+    → at ≡ place line value → seen ≡ get_or (ceilings_of study) at seen → r ≡ covers kind bound seen → r ≡ b → covers kind bound (ceiling study line value) ≡ b
+covers_read kind study line value bound at seen r b present bit e reads tests is =
     let within : place line value < length (ceilings_of study) = omega (arith, study.room, study.lines.ok.0, study.ceilings.ok.0) in
-    ap (covers kind bound) (sym (get_or_read_under (ceilings_of study) (place line value) (length (ceilings_of study)) seen None reads within refl)) ∙ sym tests ∙ is
+    let reads_there = reads ∙ ap (λ k. get_or (ceilings_of study) k seen) e in
+    ap (covers kind bound) (sym (get_or_read_under (ceilings_of study) (place line value) (length (ceilings_of study)) seen None reads_there within refl)) ∙ sym tests ∙ is

@@ -14,7 +14,6 @@ use Rattle.search.specs.Worst.{Reached, worst_from, worst_vector}
 use Rattle.seeking.specs.Outcomes.{time_found, LookedFor}
 use Rattle.seeking.specs.Seeking.{settle_time, final_value, latest_time, latest_of_both, seek_search, worst_search}
 use Rattle.seeking.proofs.Instance.{deciding, worst_of_lines}
-use Rattle.turns.specs.declared.answers.Found.TheVariants.{Nothing, At}
 use Rattle.turns.specs.Answers.{SettleTold}
 use Rattle.turns.specs.Asked.{Told, told_seek}
 use Rattle.turns.specs.Plain.{Plain, bits, bytes, written}
@@ -68,11 +67,9 @@ module _ {Time : Type 0} (kind : Kind Time) (lines : List Line) (ties : Setting)
       go (Some w) e t = let z : ◌≡◌ {A = ℕ} 0 1 = cc in absurd (omega arith)
       go None e t = e
 
-pub told_found : {Time : Type 0} {t t' : Time} {n n' : ℕ} {v v' : List ℕ} (work : List (Latest Time)) → t ≡ t' → n ≡ n' → v ≡ v' → ◌≡◌ {A = Told Time} (told_seek (Ok (At t n)) v work) (told_seek (Ok (At t' n')) v' work)
-told_found work a b c = λ i. told_seek (Ok (At (a i) (b i))) (c i) work
-
-pub told_nothing : {Time : Type 0} {n n' : ℕ} (v : List ℕ) (work : List (Latest Time)) → n ≡ n' → ◌≡◌ {A = Told Time} (told_seek (Ok (Nothing n)) v work) (told_seek (Ok (Nothing n')) v work)
-told_nothing v work a = λ i. told_seek (Ok (Nothing (a i))) v work
+pub told_looked : {Time : Type 0} {f f' : Option Time} {n n' : ℕ} {v v' : List ℕ} (work : List (Latest Time)) → f ≡ f' → n ≡ n' → v ≡ v'
+    → ◌≡◌ {A = Told Time} (told_seek (Ok (record { found = f; looks = n })) v work) (told_seek (Ok (record { found = f'; looks = n' })) v' work)
+told_looked work a b c = λ i. told_seek (Ok (record { found = a i; looks = b i })) (c i) work
 
 -- worst
 

@@ -7,8 +7,7 @@ use Rattle.network.specs.Least.{NothingWrong}
 use Rattle.times.specs.Kind.{Kind, Laws, NoLater}
 use Rattle.settling.specs.declared.latest.Latest.{Latest}
 use Rattle.seeking.specs.Seeking.{NoneLate}
-use Rattle.turns.specs.declared.answers.Found.TheVariants.{Nothing}
-use Rattle.turns.specs.Answers.{Turn, Past, accepted, forgets, FoundNothing, found_nothing, Known}
+use Rattle.turns.specs.Answers.{Turn, Past, accepted, forgets, nothing_in, FoundNothing, found_nothing, Known}
 use Rattle.turns.specs.Asked.{Asked, seek, Told, told_seek}
 use Rattle.turns.specs.Plain.{Plain, is_one}
 use Rattle.turns.specs.Refusals.{Wrong}
@@ -118,7 +117,7 @@ module _ {Time : Type 0} (kind : Kind Time) (laws : Laws kind) (opened : Plain) 
     (none_wrong : NothingWrong (Wrong (plain_of before) (seek line value bound vector work))) (e : plain_of after ≡ plain_of before) (present : line < length (plain_of before).lines) (bit : value ≤ 1)
     (none : NoneLate kind (plain_of before).lines (plain_of before).ties line (is_one value) bound) where
   abbrev turn : Turn Time
-  turn = record { call = seek line value bound vector work; reply = told_seek (Ok (Nothing looks)) vector' work' }
+  turn = record { call = seek line value bound vector work; reply = told_seek (Ok (nothing_in looks)) vector' work' }
 
   same_length : length (plain_of after).lines ≡ length (plain_of before).lines
   same_length = ap (λ p. length p.lines) e

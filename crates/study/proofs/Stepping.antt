@@ -8,12 +8,12 @@ use Rattle.times.specs.Kind.{Kind, Laws, LongerLater}
 use Rattle.settling.specs.declared.latest.Latest.{Latest}
 use Rattle.search.specs.Search.{Vector, Outcome, Shows, Searched}
 use Rattle.search.specs.Worst.{Reached, Worst}
+use Rattle.seeking.specs.declared.seek.Looked.{Looked}
 use Rattle.seeking.specs.Seeking.{Late, NoneLate, settle_time, final_value, seek_search, worst_search}
 use Rattle.seeking.proofs.Instance.{seek_stands, worst_of_lines}
-use Rattle.turns.specs.declared.answers.Found.TheVariants.{Nothing, At}
 use Rattle.turns.specs.declared.answers.Greatest.{Greatest}
 use Rattle.turns.specs.declared.fault.StudyFault.{StudyFault}
-use Rattle.turns.specs.Answers.{Past, accepted, forgets, FoundNothing, Known, SettleTold, SearchedLooks, Answers}
+use Rattle.turns.specs.Answers.{Past, accepted, forgets, nothing_in, FoundNothing, Known, SettleTold, SearchedLooks, Answers}
 use Rattle.turns.specs.Asked.{Asked, settle, seek, worst, shorten, lengthen, tie, untie, Told, told_settle, told_seek, told_worst, told_change}
 use Rattle.turns.specs.Plain.{Plain, delayed, tied, is_one, written}
 use Rattle.turns.specs.Refusals.{number, Wrong}
@@ -35,7 +35,11 @@ settle_finds kind call outcome values times line value bound f = elim f [ ]
 refused_finds : {Time : Type 0} (kind : Kind Time) (call : Asked Time) (fault : StudyFault) (vector : List ℕ) (work : List (Latest Time)) (line value : ℕ) (bound : Time) → FoundNothing kind line value bound call (told_seek (Err fault) vector work) → ⊥
 refused_finds kind call fault vector work line value bound f = elim f [ ]
 
-at_finds : {Time : Type 0} (kind : Kind Time) (call : Asked Time) (time : Time) (looks : ℕ) (vector : List ℕ) (work : List (Latest Time)) (line value : ℕ) (bound : Time) → FoundNothing kind line value bound call (told_seek (Ok (At time looks)) vector work) → ⊥
+-- what a seek comes to that finds a vector, by the line's settle time under it
+abbrev pub found_at : {Time : Type 0} → Time → ℕ → Looked Time
+found_at time looks = record { found = Some time; looks = looks }
+
+at_finds : {Time : Type 0} (kind : Kind Time) (call : Asked Time) (time : Time) (looks : ℕ) (vector : List ℕ) (work : List (Latest Time)) (line value : ℕ) (bound : Time) → FoundNothing kind line value bound call (told_seek (Ok (found_at time looks)) vector work) → ⊥
 at_finds kind call time looks vector work line value bound f = elim f [ ]
 
 worst_finds : {Time : Type 0} (kind : Kind Time) (call : Asked Time) (outcome : Result (Greatest Time) StudyFault) (vector : List ℕ) (work : List (Latest Time)) (line value : ℕ) (bound : Time) → FoundNothing kind line value bound call (told_worst outcome vector work) → ⊥
@@ -169,9 +173,9 @@ module _ {Time : Type 0} (kind : Kind Time) (laws : Laws kind) (before after : S
     bit : value ≤ 1
     bit = seek_bit (plain_of before) line value (length vector) (length work) none
 
-    pub accepted_covered : covers kind bound (ceiling before line value) ≡ true → ceilings_of after ≡ ceilings_of before → Promises kind before after (seek line value bound vector work) (told_seek (Ok (Nothing 0)) vector work')
+    pub accepted_covered : covers kind bound (ceiling before line value) ≡ true → ceilings_of after ≡ ceilings_of before → Promises kind before after (seek line value bound vector work) (told_seek (Ok (nothing_in 0)) vector work')
     accepted_covered covered kept =
-        promise (seek line value bound vector work) (told_seek (Ok (Nothing 0)) vector work') (λ opened past s.
+        promise (seek line value bound vector work) (told_seek (Ok (nothing_in 0)) vector work') (λ opened past s.
         let known = covered_known kind laws opened past before s line value bound present bit covered in
         let quiet = s.known_none_late line value bound known in (
           Answers.to_seek (none, record { shown = (quiet, refl); known_nothing = λ k. refl; no_looks_known = λ e. known; searched = λ unknown. absurd (unknown known) }, as_many),
@@ -195,10 +199,10 @@ module _ {Time : Type 0} (kind : Kind Time) (laws : Laws kind) (before after : S
       some_looks e = omega (arith, searched.one_look)
 
       pub accepted_found : (w : Vector) → outcome.found ≡ Some w → ceilings_of after ≡ ceilings_of before
-          → Promises kind before after (seek line value bound vector work) (told_seek (Ok (At (settle_time kind (plain_of before).lines (plain_of before).ties line w) outcome.looks)) (written w vector) work')
+          → Promises kind before after (seek line value bound vector work) (told_seek (Ok (found_at (settle_time kind (plain_of before).lines (plain_of before).ties line w) outcome.looks)) (written w vector) work')
       accepted_found w is kept =
           let time = settle_time kind (plain_of before).lines (plain_of before).ties line w in
-          promise (seek line value bound vector work) (told_seek (Ok (At time outcome.looks)) (written w vector) work') (λ opened past s. (
+          promise (seek line value bound vector work) (told_seek (Ok (found_at time outcome.looks)) (written w vector) work') (λ opened past s. (
             Answers.to_seek (
               none,
               record {
@@ -209,15 +213,15 @@ module _ {Time : Type 0} (kind : Kind Time) (laws : Laws kind) (before after : S
               },
               as_many,
             ),
-            stands_idle kind opened past before after (seek line value bound vector work) (told_seek (Ok (At time outcome.looks)) (written w vector) work') s (After.accepted s.plain none) same kept
+            stands_idle kind opened past before after (seek line value bound vector work) (told_seek (Ok (found_at time outcome.looks)) (written w vector) work') s (After.accepted s.plain none) same kept
                 (at_finds kind (seek line value bound vector work) time outcome.looks (written w vector) work') (λ l e f. false≢true f),
           ))
 
       pub accepted_nothing : outcome.found ≡ None → ceilings_of after ≡ set (ceilings_of before) (place line value) (Some bound)
-          → Promises kind before after (seek line value bound vector work) (told_seek (Ok (Nothing outcome.looks)) vector work')
+          → Promises kind before after (seek line value bound vector work) (told_seek (Ok (nothing_in outcome.looks)) vector work')
       accepted_nothing is recorded =
           let quiet = subst (Shows (Late kind (plain_of before).lines (plain_of before).ties line (is_one value) bound) (plain_of before).ties) is searched.shows in
-          promise (seek line value bound vector work) (told_seek (Ok (Nothing outcome.looks)) vector work') (λ opened past s. (
+          promise (seek line value bound vector work) (told_seek (Ok (nothing_in outcome.looks)) vector work') (λ opened past s. (
             Answers.to_seek (
               none,
               record {

@@ -6,11 +6,11 @@ use crate::ceilings::is_covered;
 use crate::study::Study;
 use lines::limits::MAX_INPUTS;
 use seeking::line::latest_at;
-use seeking::seek::look_for;
+use seeking::seek::{Looked, look_for};
 use seeking::worst::worst_of;
 use settling::latest::Latest;
 use times::time::Time;
-use turns::answers::{Found, Greatest};
+use turns::answers::Greatest;
 use turns::bits::{decide_all, read_bits, write_vector};
 use turns::fault::StudyFault;
 
@@ -42,33 +42,28 @@ impl<T: Time> Study<T> {
         bound: T,
         vector: &mut [u8],
         work: &mut [Latest<T>],
-    ) -> Result<Found<T>, StudyFault>
+    ) -> Result<Looked<T>, StudyFault>
         ensures promise { Promises T.kind self.old self.new (seek line value bound vector.old work.old) (told_seek result vector.new work.new) }
         ensures keeps { Keeps self.old self.new result }
     {
         self.check_seek(line, value, vector.len(), work.len())?;
-        let place = 2 * line + value as usize;
-        let ceiling = self.ceilings[place];
-        if is_covered(ceiling, bound) {
-            return Ok(Found::Nothing { looks: 0 });
+        let place = self.ceiling_place(line, value);
+        if is_covered(self.ceilings[place], bound) {
+            return Ok(Looked {
+                found: None,
+                looks: 0,
+            });
         }
-        let one = value == 1;
         let mut setting = self.ties;
         let setting = &mut setting[..self.inputs];
         let ties = &self.ties[..self.inputs];
-        let looked = look_for(&self.lines, line, one, bound, ties, setting, work);
-        let looks = looked.looks;
-        let found = looked.found;
-        match found {
-            Some(time) => {
-                write_vector(setting, vector);
-                Ok(Found::At { time, looks })
-            }
-            None => {
-                self.ceilings[place] = Some(bound);
-                Ok(Found::Nothing { looks })
-            }
+        let looked = look_for(&self.lines, line, value == 1, bound, ties, setting, work);
+        if looked.found.is_none() {
+            self.ceilings[place] = Some(bound);
+            return Ok(looked);
         }
+        write_vector(setting, vector);
+        Ok(looked)
     }
 
     // The line's greatest settle time over the vectors that agree with the ties, and its value under the first vector

@@ -15,7 +15,6 @@ mod tests {
     use std::process::Abort;
     use std::test::Fail;
     use times::ticks::Ticks;
-    use turns::answers::Found;
     use turns::calls::{Call, Reply};
 
     // Line 5 is q: not a, and a as well as b after 9 ticks, which is never 1.
@@ -47,27 +46,16 @@ mod tests {
 
     // The time, the looks and the vector's bytes that a seek answered.
     fn sought(reply: &Reply<Ticks>) -> Option<(Option<u64>, u32, u8, u8)> {
-        match reply {
-            Reply::Sought {
-                outcome: Ok(found),
-                vector,
-                work: _,
-            } => {
-                if vector.len() < 2 {
-                    return None;
-                }
-                match found {
-                    Found::Nothing { looks } => Some((None, *looks, vector[0], vector[1])),
-                    Found::At { time, looks } => Some((
-                        Some(time.ticks),
-                        *looks,
-                        vector[0],
-                        vector[1],
-                    )),
-                }
-            }
-            _ => None,
-        }
+        let Reply::Sought {
+            outcome: Ok(looked),
+            vector,
+            work: _,
+        } = reply
+        else {
+            return None;
+        };
+        let time = looked.found.map(|time| time.ticks);
+        Some((time, looked.looks, *vector.first()?, *vector.get(1)?))
     }
 
     #[test]

@@ -4,7 +4,7 @@
 --     asked, told      a call and a reply of the code, by what they hold
 use Rattle.std.specs.Prelude.{ℕ, Bool, List, vec_items, Result}
 use Rattle.settling.specs.declared.latest.Latest.{Latest}
-use Rattle.turns.specs.declared.answers.Found.{Found}
+use Rattle.seeking.specs.declared.seek.Looked.{Looked}
 use Rattle.turns.specs.declared.answers.Greatest.{Greatest}
 use Rattle.turns.specs.declared.calls.Call.{Call}
 use Rattle.turns.specs.declared.calls.Call.TheVariants.{Settle, Seek, Worst, Shorten, Lengthen, Tie, Untie}
@@ -23,7 +23,7 @@ pub data Asked (Time : Type 0) : Type 0 where
 
 pub data Told (Time : Type 0) : Type 0 where
   told_settle : (outcome : Result (Unit {0}) StudyFault) (values : List Bool) (times : List Time) → Told Time
-  told_seek : (outcome : Result (Found Time) StudyFault) (vector : List ℕ) (work : List (Latest Time)) → Told Time
+  told_seek : (outcome : Result (Looked Time) StudyFault) (vector : List ℕ) (work : List (Latest Time)) → Told Time
   told_worst : (outcome : Result (Greatest Time) StudyFault) (vector : List ℕ) (work : List (Latest Time)) → Told Time
   told_change : (outcome : Result (Unit {0}) StudyFault) → Told Time
 

@@ -1,9 +1,11 @@
 // The calls of a study with their own arguments and buffers, and the replies that hand the buffers back.
-use crate::answers::{Found, Greatest};
+use crate::answers::Greatest;
 use crate::fault::StudyFault;
+use seeking::seek::Looked;
 use settling::latest::Latest;
 
-// A call with its arguments and buffers; values and vectors are bytes 0 and 1.
+// A call with its arguments and buffers. Values and vectors are bytes 0 and 1, and not `bool`, since the call itself refuses
+// another byte.
 #[derive(Drop)]
 pub enum Call<T> {
     // The final value and settle time of every line under a vector.
@@ -56,9 +58,10 @@ pub enum Reply<T> {
         values: Vec<bool>,
         times: Vec<T>,
     },
-    // To a seek.
+    // To a seek: the line's settle time under the first late vector, or none where no vector that agrees with the ties is
+    // late; a look is one setting tested.
     Sought {
-        outcome: Result<Found<T>, StudyFault>,
+        outcome: Result<Looked<T>, StudyFault>,
         vector: Vec<u8>,
         work: Vec<Latest<T>>,
     },
