@@ -4,12 +4,13 @@ use crate::script::{Sizes, StudyStep};
 use crate::sketch::refused;
 use anyhow::anyhow;
 use network::network::Network;
+use seeking::seek::Looked;
 use settling::latest::Latest;
 use std::alloc::{AllocError, Global};
 use study::opening::check_open;
 use study::study::Study;
 use times::time::Time;
-use turns::answers::{Found, Greatest};
+use turns::answers::Greatest;
 use turns::fault::StudyFault;
 
 // A byte that no call writes into a vector.
@@ -219,17 +220,20 @@ impl<T: Written> Opened<T> {
     fn sought(
         &self,
         heap: Global,
-        outcome: Result<Found<T>, StudyFault>,
+        outcome: Result<Looked<T>, StudyFault>,
         vector: &[u8],
     ) -> Result<String, AllocError> {
         match outcome {
-            Ok(Found::At { time, looks }) => {
+            Ok(Looked {
+                found: Some(time),
+                looks,
+            }) => {
                 let digits = digits(heap, vector, self.inputs)?;
                 let time = time.text(heap)?;
                 format!(in heap; "found {digits} time {time} looks {looks}")
             }
             _ if !places_stay(vector, 0, MARK) => overwritten(heap),
-            Ok(Found::Nothing { looks }) => format!(in heap; "nothing looks {looks}"),
+            Ok(Looked { found: None, looks }) => format!(in heap; "nothing looks {looks}"),
             Err(fault) => refused(heap, fault.number()),
         }
     }
