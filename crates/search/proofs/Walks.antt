@@ -1,6 +1,6 @@
 -- The first undecided input, and writes there. Assumes nothing.
 use Rattle.std.proofs.Common.{◌≡◌, ℕ, suc, ◌+◌, ◌≤◌, Bool, true, false, ◌≢◌, List, [], ◌∷◌, length, set, Some, None, Option, cond, unwrap_or, ltb, sym, refl, ap, ◌∙◌, arith}
-use Rattle.std.proofs.lemmas.Bool.{ltb-false}
+use Rattle.std.proofs.lemmas.Bool.{ltb-false, ltb-true}
 use Rattle.std.proofs.lemmas.List.Recursion.{is_position_or_len}
 use Rattle.std.proofs.lemmas.List.Sums.{prefix_len-le-length}
 use Rattle.std.specs.Option.{is_none}
@@ -23,6 +23,20 @@ first_position s = by (ltb (position_or_len is_none s) (length s)) refl ∙ sym 
     by : (b : Bool) → ltb (position_or_len is_none s) (length s) ≡ b → unwrap_or (cond b (Some (position_or_len is_none s)) None) (length s) ≡ position_or_len is_none s
     by true e = refl
     by false e = let within : position_or_len is_none s ≤ length s = prefix_len-le-length _ s in let past = ltb-false _ _ e in omega arith
+
+-- where an undecided input is found, and where none is
+pub open_at : (s : Setting) (next : ℕ) → position is_none s ≡ Some next → next ≡ first_open s
+open_at s next e = sym (ap (λ (o : Option ℕ). unwrap_or o (length s)) e) ∙ first_position s
+
+pub open_within : (s : Setting) (next : ℕ) → position is_none s ≡ Some next → next ≡ length s → ⊥
+open_within s next = by (ltb (position_or_len is_none s) (length s)) refl
+  where
+    by : (b : Bool) → ltb (position_or_len is_none s) (length s) ≡ b → cond b (Some (position_or_len is_none s)) None ≡ Some next → next ≡ length s → ⊥
+    by true less e same = let at : position_or_len is_none s ≡ next = cc in let below = ltb-true _ _ less in omega arith
+    by false less e same = cc
+
+pub open_nowhere : (s : Setting) → position is_none s ≡ None → first_open s ≡ length s
+open_nowhere s e = sym (first_position s) ∙ ap (λ (o : Option ℕ). unwrap_or o (length s)) e
 
 -- where the walk ends
 pub open_none : (s : Setting) → first_open s ≡ length s → undecided s ≡ 0

@@ -1,24 +1,15 @@
 // The steps of the search from one setting to the next.
-ghost use Rattle.std.specs.Prelude.{◌≡◌, ◌≤◌, length, is_some};
+ghost use Rattle.std.specs.Prelude.{◌≡◌, ◌<◌, ◌≤◌, length, is_some, IfSome};
 ghost use Rattle.std.specs.List.{position};
 ghost use Rattle.std.specs.Option.{is_none, unwrap_or};
 ghost use Rattle.search.specs.Turns.{Over, next_setting};
-ghost use Rattle.search.specs.Walk.{first_open};
 
 // The first undecided input, if any.
-fn find_open(setting: &[Option<bool>]) -> Option<usize>
-    ensures { result ≡ position is_none setting.now }
+pub fn next_open(setting: &[Option<bool>]) -> Option<usize>
+    ensures first { result ≡ position is_none setting.now }
+    ensures within { IfSome result (λ input. input < length setting.now) }
 {
     setting.iter().position(|input| input.is_none())
-}
-
-// The first undecided input, or the number of inputs.
-#[tactic(auto, using(crate::proofs::Walks::first_position))]
-pub fn next_open(setting: &[Option<bool>]) -> usize
-    ensures first { result ≡ first_open setting.now }
-    ensures within { result ≤ length setting.now }
-{
-    find_open(setting).unwrap_or(setting.len())
 }
 
 // Moves on from a setting whose continuations are done; false at the end of the search, where the ties are left.

@@ -3,7 +3,7 @@ ghost use Rattle.std.specs.Prelude.{◌≡◌, ◌≤◌, length};
 ghost use Rattle.lines.specs.Lines.{inputs};
 ghost use Rattle.seeking.specs.Seeking.{line_latest, latest_time, latest_of_both};
 
-use crate::target::Target;
+use crate::aim::Target;
 use cells::order::later_of;
 use settling::latest::Latest;
 use times::time::Time;

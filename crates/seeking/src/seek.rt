@@ -7,7 +7,7 @@ ghost use Rattle.search.specs.Search.{undecided};
 ghost use Rattle.seeking.specs.Seeking.{seek_search};
 ghost use Rattle.seeking.specs.Outcomes.{LookedFor};
 
-use crate::target::Target;
+use crate::aim::Target;
 use search::walk::{next_open, pass};
 use settling::latest::Latest;
 use times::time::Time;
@@ -46,10 +46,9 @@ impl Target<'_> {
             looks += 1;
             let late = self.latest_at(value, setting, work);
             if reaches(late, bound) {
-                let next = next_open(setting);
-                if next == setting.len() {
+                let Some(next) = next_open(setting) else {
                     return Looked { found: late, looks };
-                }
+                };
                 setting[next] = Some(false);
             } else if !pass(self.network.ties, setting) {
                 return Looked { found: None, looks };

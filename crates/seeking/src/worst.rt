@@ -5,7 +5,7 @@ ghost use Rattle.search.specs.Search.{undecided, vector};
 ghost use Rattle.search.specs.Worst.{best_of, promising, worst_from};
 ghost use Rattle.seeking.specs.Seeking.{latest_of_both};
 
-use crate::target::Target;
+use crate::aim::Target;
 use search::walk::next_open;
 use settling::latest::Latest;
 use times::time::Time;
@@ -46,11 +46,10 @@ impl Target<'_> {
         if !is_promising(late, best) {
             return best;
         }
-        let next = next_open(setting);
-        if next == setting.len() {
+        let Some(next) = next_open(setting) else {
             keep(setting, at);
             return late;
-        }
+        };
         setting[next] = Some(false);
         let zero = self.worst_of(setting, best, at, work);
         setting[next] = Some(true);

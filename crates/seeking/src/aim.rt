@@ -1,4 +1,4 @@
-// A line of a network that a search is for.
+// What a search aims at: a line of a network with its ties.
 ghost use Rattle.std.specs.Prelude.{◌<◌, length};
 
 use settling::tied::Tied;
