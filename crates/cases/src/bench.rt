@@ -1,22 +1,24 @@
 // What a script works on, and its answers to the script's steps.
-use crate::catalogue::{Catalogue, ask, entry, with_entries};
-use crate::kinds::after;
+use crate::catalogue::{Catalogue, ask, entry, library_of, with_library};
 use crate::opened::Opened;
 use crate::script::{DraftStep, Kind, Step, StudyStep, read_step};
 use crate::sketch::{Sketch, refused};
-use anyhow::anyhow;
+use anyhow::{Context, bail};
 use library::entry::Entry;
+use library::library::Library;
 use network::network::Network;
 use std::alloc::{AllocError, Global};
+use std::error::Error;
+use std::fmt::Display;
 use std::mem;
+use std::str::FromStr;
 use times::staged::Staged;
 use times::ticks::Ticks;
 use times::time::Time;
 
-// The study that is open, of either kind of time.
+// A study that is open, of either kind of time.
 #[derive(Drop)]
 enum Subject {
-    None,
     Ticks(Opened<Ticks>),
     Stages(Opened<Staged>),
 }
@@ -31,25 +33,38 @@ pub struct Bench {
     sheet: Vec<u8>,
     sketch: Sketch,
     sealed: Option<Network>,
-    subject: Subject,
+    subject: Option<Subject>,
+}
+
+// The time when a delay has passed, as it is written.
+fn after<T: Time + Display + FromStr>(
+    heap: Global,
+    time: &str,
+    delay: u32,
+) -> anyhow::Result<String>
+where
+    T::Err: Error,
+{
+    Ok(time.parse::<T>()?.after(delay).to_string(heap)?)
+}
+
+// The buffer of the ceilings, full of times.
+fn ceilings<T: Time>(heap: Global, places: usize) -> Result<Vec<Option<T>>, AllocError> {
+    Ok(vec![in heap; Some(T::start()); places]?)
 }
 
 impl Bench {
     // Ticks, the plain family paired with the board library, and an empty draft.
-    pub fn new(heap: Global) -> anyhow::Result<Bench> {
-        let family = match with_entries(heap, Vec::new(heap))? {
-            Ok(family) => family,
-            Err(_) => return Err(anyhow!("an empty library is refused")),
-        };
+    pub fn new(heap: Global) -> Result<Bench, AllocError> {
         Ok(Bench {
             heap,
             kind: Kind::Ticks,
             entries: Vec::new(heap),
-            family,
+            family: with_library(heap, Library::new(Vec::new(heap)))?,
             sheet: Vec::new(heap),
             sketch: Sketch::new(heap)?,
             sealed: None,
-            subject: Subject::None,
+            subject: None,
         })
     }
 
@@ -60,16 +75,16 @@ impl Bench {
                 self.kind = kind;
                 Ok(None)
             }
-            Step::After(time, delay) => Ok(Some(self.after(time, delay)?)),
-            Step::Entry(name, pins, table) => {
+            Step::After { time, delay } => Ok(Some(self.after(time, delay)?)),
+            Step::Entry { name, pins, table } => {
                 self.entries.push(entry(&name, pins, table))?;
                 Ok(None)
             }
             Step::Library => Ok(Some(self.library()?)),
-            Step::Ask(word, pins) => Ok(Some(ask(self.heap, &self.family, &word, pins)?)),
-            Step::Draft(step) => self.draft(step),
+            Step::Ask { word, pins } => Ok(Some(ask(self.heap, &self.family, &word, pins)?)),
+            Step::Draft(step) => Ok(self.draft(step)?),
             Step::Seal => Ok(Some(self.seal()?)),
-            Step::Open(places) => Ok(Some(self.open(places)?)),
+            Step::Open { places } => Ok(Some(self.open(places)?)),
             Step::Study(step) => Ok(Some(self.study(step)?)),
         }
     }
@@ -85,40 +100,35 @@ impl Bench {
     fn library(&mut self) -> Result<String, AllocError> {
         let heap = self.heap;
         let entries = mem::replace(&mut self.entries, Vec::new(heap));
-        match with_entries(heap, entries)? {
-            Ok(family) => {
-                self.family = family;
+        match library_of(entries) {
+            Ok(library) => {
+                self.family = with_library(heap, library)?;
                 self.sketch = Sketch::new(heap)?;
                 format!(in heap; "ok")
             }
-            Err(fault) => {
-                let number = fault.number();
-                let entry = fault.entry;
-                format!(in heap; "refused {number} {entry}")
-            }
+            Err(fault) => format!(in heap; "refused {} {}", fault.number(), fault.entry),
         }
     }
 
     // A step on the draft.
-    fn draft(&mut self, step: DraftStep) -> anyhow::Result<Option<String>> {
-        let heap = self.heap;
+    fn draft(&mut self, step: DraftStep) -> Result<Option<String>, AllocError> {
         match step {
             DraftStep::New => {
-                self.sketch = Sketch::new(heap)?;
+                self.sketch = Sketch::new(self.heap)?;
                 Ok(None)
             }
-            DraftStep::Input(name, delay) => Ok(Some(self.sketch.input(heap, &name, delay)?)),
-            DraftStep::Cell(cell) => Ok(Some(self.sketch.cell(heap, &self.family, &cell)?)),
+            DraftStep::Input { name, delay } => Ok(Some(self.sketch.input(&name, delay)?)),
+            DraftStep::Cell(cell) => Ok(Some(self.sketch.cell(&self.family, &cell)?)),
             DraftStep::Part(text) => {
                 self.sheet.extend_from_slice(text.as_bytes())?;
                 self.sheet.push(b'\n')?;
                 Ok(None)
             }
             DraftStep::Draw => {
-                let sheet = mem::replace(&mut self.sheet, Vec::new(heap));
-                Ok(Some(self.sketch.draw(heap, &self.family, &sheet)?))
+                let sheet = mem::replace(&mut self.sheet, Vec::new(self.heap));
+                Ok(Some(self.sketch.draw(&self.family, &sheet)?))
             }
-            DraftStep::Lines => Ok(Some(self.sketch.count(heap)?)),
+            DraftStep::Lines => Ok(Some(self.sketch.count()?)),
         }
     }
 
@@ -138,34 +148,36 @@ impl Bench {
         }
     }
 
-    // Opens a study, in the kind of time that stands.
+    // Opens a study, in the kind of time that stands; the network stays where that is refused.
     fn open(&mut self, places: usize) -> anyhow::Result<String> {
         let heap = self.heap;
+        let network = self.sealed.take().context("no network is sealed")?;
         let opened = match self.kind {
-            Kind::Ticks => match Opened::<Ticks>::open(heap, &mut self.sealed, places)? {
-                Ok(opened) => Ok(Subject::Ticks(opened)),
-                Err(fault) => Err(fault),
-            },
-            Kind::Stages => match Opened::<Staged>::open(heap, &mut self.sealed, places)? {
-                Ok(opened) => Ok(Subject::Stages(opened)),
-                Err(fault) => Err(fault),
-            },
+            Kind::Ticks => {
+                Opened::open(heap, network, ceilings(heap, places)?).map(Subject::Ticks)
+            }
+            Kind::Stages => {
+                Opened::open(heap, network, ceilings(heap, places)?).map(Subject::Stages)
+            }
         };
         match opened {
             Ok(subject) => {
-                self.subject = subject;
+                self.subject = Some(subject);
                 Ok(format!(in heap; "ok")?)
             }
-            Err(fault) => Ok(refused(heap, fault.number())?),
+            Err((network, fault)) => {
+                self.sealed = Some(network);
+                Ok(refused(heap, fault.number())?)
+            }
         }
     }
 
     // A step on the study.
     fn study(&mut self, step: StudyStep) -> anyhow::Result<String> {
         match &mut self.subject {
-            Subject::None => Err(anyhow!("no study is open")),
-            Subject::Ticks(opened) => opened.answer(self.heap, step),
-            Subject::Stages(opened) => opened.answer(self.heap, step),
+            None => bail!("no study is open"),
+            Some(Subject::Ticks(opened)) => opened.answer(step),
+            Some(Subject::Stages(opened)) => opened.answer(step),
         }
     }
 }

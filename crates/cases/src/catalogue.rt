@@ -15,24 +15,22 @@ use std::alloc::{AllocError, Global};
 // While that is empty, it answers as the plain family paired with the board library alone.
 pub type Catalogue = Pair<Plain, Pair<Library, Library>>;
 
-// The family with a library of the entries, or why there is none.
-pub fn with_entries(
-    heap: Global,
-    entries: Vec<Entry>,
-) -> Result<Result<Catalogue, LibraryFault>, AllocError> {
-    match check_entries(&entries) {
-        Err(fault) => Ok(Err(fault)),
-        Ok(()) => {
-            let second = Pair {
-                first: board(heap)?,
-                second: Library::new(entries),
-            };
-            Ok(Ok(Pair {
-                first: Plain,
-                second,
-            }))
-        }
-    }
+// The library of the entries, or why there is none.
+pub fn library_of(entries: Vec<Entry>) -> Result<Library, LibraryFault> {
+    check_entries(&entries)?;
+    Ok(Library::new(entries))
+}
+
+// The family with a library.
+pub fn with_library(heap: Global, library: Library) -> Result<Catalogue, AllocError> {
+    let second = Pair {
+        first: board(heap)?,
+        second: library,
+    };
+    Ok(Pair {
+        first: Plain,
+        second,
+    })
 }
 
 // The entry of that name. One of more than eight bytes cannot be kept: the empty name, as unlawful, stands for it.
@@ -46,9 +44,14 @@ pub fn entry(name: &[u8], pins: usize, table: u16) -> Entry {
 }
 
 // What the family has for a word and a number of pins, in hexadecimal.
-pub fn ask(heap: Global, family: &Catalogue, word: &[u8], pins: usize) -> anyhow::Result<String> {
+pub fn ask(
+    heap: Global,
+    family: &Catalogue,
+    word: &[u8],
+    pins: usize,
+) -> Result<String, AllocError> {
     match family.table(word, pins) {
-        Some(table) => Ok(format!(in heap; "{table:x}")?),
-        None => Ok(format!(in heap; "none")?),
+        Some(table) => format!(in heap; "{table:x}"),
+        None => format!(in heap; "none"),
     }
 }

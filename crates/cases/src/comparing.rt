@@ -14,26 +14,19 @@ const MAX_SHOWN: usize = 100;
 
 // The first bytes of a text, made readable.
 pub fn shown(heap: Global, text: &[u8]) -> Result<String, AllocError> {
-    let end = text.len().min(MAX_SHOWN);
-    let front = text[0..end].escape_ascii();
-    if end < text.len() {
-        format!(in heap; "\"{front}\"...")
-    } else {
-        format!(in heap; "\"{front}\"")
-    }
+    let front = &text[..text.len().min(MAX_SHOWN)];
+    let more = if front.len() < text.len() { "..." } else { "" };
+    format!(in heap; "\"{}\"{more}", front.escape_ascii())
 }
 
 // How many bytes at the front of two texts are the same.
 fn same_front(a: &[u8], b: &[u8]) -> usize
     ensures { (result ≤ length a.now) × (result ≤ length b.now) }
 {
-    let end = a.len().min(b.len());
-    for i in 0..end {
-        if a[i] != b[i] {
-            return i;
-        }
-    }
-    end
+    a.iter()
+        .zip(b.iter())
+        .position(|(x, y)| x != y)
+        .unwrap_or(a.len().min(b.len()))
 }
 
 // What differs in the answer to a sheet, from the first byte that does.
@@ -49,9 +42,13 @@ pub fn check_sheets(rt: &HostRuntime, folder: &str, kind: &str) -> anyhow::Resul
     let heap = rt.alloc();
     let mut tally = Tally::new(heap);
     let folder = format!(in heap; "{folder}/{kind}")?;
-    for name in names_in(rt, folder.as_str(), ".sheet")? {
+    for name in names_in(rt, &folder, ".sheet")? {
         let path = format!(in heap; "{folder}/{name}")?;
-        check_sheet(rt, &mut tally, path.as_str())?;
+        let difference = check_sheet(rt, &path)?;
+        tally.cases.add(difference.is_none());
+        if let Some(difference) = difference {
+            tally.differences.push(difference)?;
+        }
     }
     Ok(tally)
 }
@@ -68,20 +65,17 @@ fn answer_of(heap: Global, sheet: &[u8]) -> Result<Vec<u8>, AllocError> {
 // The bytes of the file at that path with that ending.
 fn read(rt: &HostRuntime, path: &str, ending: &str) -> anyhow::Result<Vec<u8>> {
     let path = format!(in rt.alloc(); "{path}{ending}")?;
-    bytes_in(rt, path.as_str())
+    bytes_in(rt, &path)
 }
 
-// One sheet, by its path without the ending.
-fn check_sheet(rt: &HostRuntime, tally: &mut Tally, path: &str) -> anyhow::Result<()> {
+// What differs in the answer to one sheet, by its path without the ending.
+fn check_sheet(rt: &HostRuntime, path: &str) -> anyhow::Result<Option<String>> {
     let heap = rt.alloc();
     let expected = read(rt, path, ".out")?;
     let sheet = read(rt, path, ".sheet")?;
     let got = answer_of(heap, &sheet)?;
-    let agrees = got == expected;
-    tally.cases.add(agrees);
-    if agrees {
-        return Ok(());
+    if got == expected {
+        return Ok(None);
     }
-    let difference = difference(heap, path, &expected, &got)?;
-    Ok(tally.differences.push(difference)?)
+    Ok(Some(difference(heap, path, &expected, &got)?))
 }

@@ -5,7 +5,6 @@ mod bench;
 mod catalogue;
 mod comparing;
 mod files;
-mod kinds;
 mod opened;
 mod playing;
 mod script;
@@ -13,58 +12,40 @@ mod sketch;
 mod tally;
 mod words;
 
-use anyhow::anyhow;
+use anyhow::ensure;
 use comparing::check_sheets;
 use playing::check_histories;
-use std::{env, io};
-use tally::Tally;
+use std::env;
 
 // The folder of the cases: the first argument, or the present folder.
 fn folder(rt: &HostRuntime) -> anyhow::Result<String> {
-    let mut args = env::args(rt)?;
-    match args.nth(1) {
+    match env::args(rt)?.nth(1) {
         Some(folder) => Ok(folder),
         None => Ok(String::from_str(rt.alloc(), ".")?),
     }
 }
 
-// The differences, each on a line.
-fn print_differences(rt: &HostRuntime, tally: &Tally) -> io::Result<()> {
-    for difference in tally.differences.iter() {
-        println!(rt; "{difference}")?;
-    }
-    Ok(())
-}
-
-// How many of each kind agree, and then what differs.
-fn print_all(
-    rt: &HostRuntime,
-    sheets: &Tally,
-    circuits: &Tally,
-    histories: &Tally,
-) -> io::Result<()> {
+// Says how many of each kind agree, and then what differs.
+fn run(rt: &HostRuntime) -> anyhow::Result<()> {
+    let folder = folder(rt)?;
+    let sheets = check_sheets(rt, &folder, "sheets")?;
+    let circuits = check_sheets(rt, &folder, "circuits")?;
+    let histories = check_histories(rt, &folder, "histories")?;
     println!(rt; "sheets: {} agree", sheets.cases)?;
     println!(rt; "circuits: {} agree", circuits.cases)?;
     println!(rt;
         "histories: {} agree, {} answers",
         histories.cases, histories.answers
     )?;
-    print_differences(rt, sheets)?;
-    print_differences(rt, circuits)?;
-    print_differences(rt, histories)
-}
-
-fn run(rt: &HostRuntime) -> anyhow::Result<()> {
-    let folder = folder(rt)?;
-    let sheets = check_sheets(rt, folder.as_str(), "sheets")?;
-    let circuits = check_sheets(rt, folder.as_str(), "circuits")?;
-    let histories = check_histories(rt, folder.as_str(), "histories")?;
-    print_all(rt, &sheets, &circuits, &histories)?;
-    if sheets.cases.is_full() && circuits.cases.is_full() && histories.cases.is_full() {
-        Ok(())
-    } else {
-        Err(anyhow!("not every case agrees, or a kind has none"))
+    let kinds = [sheets, circuits, histories];
+    for difference in kinds.iter().flat_map(|tally| tally.differences.iter()) {
+        println!(rt; "{difference}")?;
     }
+    ensure!(
+        kinds.iter().all(|tally| tally.cases.is_full()),
+        "not every case agrees, or a kind has none"
+    );
+    Ok(())
 }
 
 fn main(rt: HostRuntime) -> anyhow::Result<()> {

@@ -1,12 +1,13 @@
 // A study that was opened, and what it answers to the steps of a script.
-use crate::kinds::Written;
 use crate::script::{Sizes, StudyStep};
 use crate::sketch::refused;
-use anyhow::anyhow;
 use network::network::Network;
 use seeking::seek::Looked;
 use settling::latest::Latest;
 use std::alloc::{AllocError, Global};
+use std::error::Error;
+use std::fmt::{self, Display};
+use std::str::FromStr;
 use study::opening::check_open;
 use study::study::Study;
 use times::time::Time;
@@ -19,6 +20,7 @@ const MARK: u8 = 170;
 // A study with the numbers of inputs and of lines that its network had.
 #[derive(Drop)]
 pub struct Opened<T: Time> {
+    heap: Global,
     study: Study<T>,
     inputs: usize,
     lines: usize,
@@ -31,12 +33,7 @@ fn never<T: Time>() -> T {
 
 // Whether the places behind those that were written hold the mark.
 fn places_stay<X: Copy + PartialEq>(places: &[X], written: usize, mark: X) -> bool {
-    for place in places.iter().skip(written) {
-        if *place != mark {
-            return false;
-        }
-    }
-    true
+    places.iter().skip(written).all(|place| *place == mark)
 }
 
 // The buffers of a seek or a worst, full of marks: no time that the work holds is to matter.
@@ -46,7 +43,7 @@ struct Buffers<T> {
     work: Vec<Latest<T>>,
 }
 
-impl<T: Written> Buffers<T> {
+impl<T: Time> Buffers<T> {
     fn new(heap: Global, sizes: Sizes) -> Result<Buffers<T>, AllocError> {
         let used = Latest {
             zero: Some(never()),
@@ -58,38 +55,21 @@ impl<T: Written> Buffers<T> {
     }
 }
 
-// The digits of a vector, behind which no place was written.
-fn digits(heap: Global, vector: &[u8], inputs: usize) -> Result<String, AllocError> {
-    if !places_stay(vector, inputs, MARK) {
-        return overwritten(heap);
-    }
-    let mut text = String::new(heap);
-    for b in vector.iter().take(inputs) {
-        text.push(digit(*b))?;
-    }
-    Ok(text)
-}
+// The bytes of a vector, as a digit for each; one that is no bit shows as `?`.
+#[derive(Clone, Copy)]
+struct Digits<'a>(&'a [u8]);
 
-fn digit(b: u8) -> char {
-    match b {
-        0 => '0',
-        1 => '1',
-        _ => '?',
+impl Display for Digits<'_> {
+    fn fmt<W: fmt::Write>(&self, f: &mut fmt::Formatter<W>) -> fmt::Result {
+        for b in self.0 {
+            f.write_str(match b {
+                0 => "0",
+                1 => "1",
+                _ => "?",
+            })?;
+        }
+        Ok(())
     }
-}
-
-// Adds the value and the time of a line.
-fn push_settled<T: Written>(
-    heap: Global,
-    text: &mut String,
-    value: bool,
-    time: T,
-) -> Result<(), AllocError> {
-    if !text.is_empty() {
-        text.push(' ')?;
-    }
-    text.push_str(if value { "1@" } else { "0@" })?;
-    text.push_str(time.text(heap)?.as_str())
 }
 
 // What is answered where a place was written that is to stay.
@@ -98,128 +78,130 @@ fn overwritten(heap: Global) -> Result<String, AllocError> {
 }
 
 // What a change came to.
-fn changed(heap: Global, outcome: Result<(), StudyFault>) -> anyhow::Result<String> {
+fn changed(heap: Global, outcome: Result<(), StudyFault>) -> Result<String, AllocError> {
     match outcome {
-        Ok(()) => Ok(format!(in heap; "ok")?),
-        Err(fault) => Ok(refused(heap, fault.number())?),
+        Ok(()) => format!(in heap; "ok"),
+        Err(fault) => refused(heap, fault.number()),
     }
 }
 
-impl<T: Written> Opened<T> {
-    // Opens a study of the sealed network, which stays where that is refused.
+impl<T: Time> Opened<T> {
+    // Opens a study of the network, or gives that back with the refusal.
     pub fn open(
         heap: Global,
-        sealed: &mut Option<Network>,
-        places: usize,
-    ) -> anyhow::Result<Result<Opened<T>, StudyFault>> {
-        let Some(network) = sealed.take() else {
-            return Err(anyhow!("no network is sealed"));
-        };
-        let ceilings = vec![in heap; Some(T::start()); places]?;
+        network: Network,
+        ceilings: Vec<Option<T>>,
+    ) -> Result<Opened<T>, (Network, StudyFault)> {
         if let Err(fault) = check_open(&network, &ceilings) {
-            *sealed = Some(network);
-            return Ok(Err(fault));
+            return Err((network, fault));
         }
         let inputs = network.input_count();
         let lines = network.line_count();
         let study = Study::open(network, ceilings);
-        Ok(Ok(Opened {
+        Ok(Opened {
+            heap,
             study,
             inputs,
             lines,
-        }))
+        })
     }
+}
 
+impl<T: Time + PartialEq + Display + FromStr> Opened<T>
+where
+    T::Err: Error,
+{
     // What the study answers to a step.
-    pub fn answer(&mut self, heap: Global, step: StudyStep) -> anyhow::Result<String> {
+    pub fn answer(&mut self, step: StudyStep) -> anyhow::Result<String> {
+        let heap = self.heap;
         match step {
-            StudyStep::Settle(vector, sizes) => self.settle(heap, &vector, sizes),
-            StudyStep::Seek(line, value, bound, sizes) => {
-                self.seek(heap, line, value, bound, sizes)
+            StudyStep::Settle { vector, sizes } => Ok(self.settle(&vector, sizes)?),
+            StudyStep::Seek {
+                line,
+                value,
+                bound,
+                sizes,
+            } => self.seek(line, value, bound, sizes),
+            StudyStep::Worst { line, sizes } => Ok(self.worst(line, sizes)?),
+            StudyStep::Shorten { line, delay } => {
+                Ok(changed(heap, self.study.shorten(line, delay))?)
             }
-            StudyStep::Worst(line, sizes) => self.worst(heap, line, sizes),
-            StudyStep::Shorten(line, delay) => changed(heap, self.study.shorten(line, delay)),
-            StudyStep::Lengthen(line, delay) => changed(heap, self.study.lengthen(line, delay)),
-            StudyStep::Tie(line, value) => changed(heap, self.study.tie(line, value)),
-            StudyStep::Untie(line) => changed(heap, self.study.untie(line)),
+            StudyStep::Lengthen { line, delay } => {
+                Ok(changed(heap, self.study.lengthen(line, delay))?)
+            }
+            StudyStep::Tie { line, value } => Ok(changed(heap, self.study.tie(line, value))?),
+            StudyStep::Untie { line } => Ok(changed(heap, self.study.untie(line))?),
         }
     }
 
     // A settle, over each mark: a value that is written where the mark is the same does not show.
-    fn settle(&self, heap: Global, vector: &[u8], sizes: Option<Sizes>) -> anyhow::Result<String> {
+    fn settle(&self, vector: &[u8], sizes: Option<Sizes>) -> Result<String, AllocError> {
         let sizes = sizes.unwrap_or(Sizes {
             first: self.lines,
             second: self.lines,
         });
-        let text = self.settle_over(heap, vector, sizes, false)?;
-        let again = self.settle_over(heap, vector, sizes, true)?;
+        let text = self.settle_over(vector, sizes, false)?;
+        let again = self.settle_over(vector, sizes, true)?;
         if text == again {
             Ok(text)
         } else {
-            Ok(format!(in heap; "{text}, but over other marks {again}")?)
+            format!(in self.heap; "{text}, but over other marks {again}")
         }
     }
 
     // A settle into buffers that hold a value, and a time that no line reaches.
-    fn settle_over(
-        &self,
-        heap: Global,
-        vector: &[u8],
-        sizes: Sizes,
-        mark: bool,
-    ) -> Result<String, AllocError> {
-        let mut values = vec![in heap; mark; sizes.first]?;
-        let mut times = vec![in heap; never::<T>(); sizes.second]?;
+    fn settle_over(&self, vector: &[u8], sizes: Sizes, mark: bool) -> Result<String, AllocError> {
+        let mut values = vec![in self.heap; mark; sizes.first]?;
+        let mut times = vec![in self.heap; never::<T>(); sizes.second]?;
         let outcome = self.study.settle(vector, &mut values, &mut times);
         let written = if outcome.is_ok() { self.lines } else { 0 };
         if !places_stay(&values, written, mark) || !places_stay(&times, written, never()) {
-            return overwritten(heap);
+            return overwritten(self.heap);
         }
         match outcome {
-            Ok(()) => self.settled(heap, &values, &times),
-            Err(fault) => refused(heap, fault.number()),
+            Ok(()) => self.settled(&values, &times),
+            Err(fault) => refused(self.heap, fault.number()),
         }
     }
 
     // The value and the time of each line.
-    fn settled(&self, heap: Global, values: &[bool], times: &[T]) -> Result<String, AllocError> {
-        let mut text = String::new(heap);
+    fn settled(&self, values: &[bool], times: &[T]) -> Result<String, AllocError> {
+        let mut text = String::new(self.heap);
         for (value, time) in values.iter().zip(times.iter()).take(self.lines) {
-            push_settled(heap, &mut text, *value, *time)?;
+            let space = if text.is_empty() { "" } else { " " };
+            write!(text, "{space}{}@{time}", u8::from(*value))?;
         }
         Ok(text)
     }
 
     // The buffers of a seek or a worst, of the sizes that are written or needed.
-    fn buffers(&self, heap: Global, sizes: Option<Sizes>) -> Result<Buffers<T>, AllocError> {
+    fn buffers(&self, sizes: Option<Sizes>) -> Result<Buffers<T>, AllocError> {
         let needed = Sizes {
             first: self.inputs,
             second: self.lines,
         };
-        Buffers::new(heap, sizes.unwrap_or(needed))
+        Buffers::new(self.heap, sizes.unwrap_or(needed))
     }
 
     fn seek(
         &mut self,
-        heap: Global,
         line: usize,
         value: u8,
         bound: &str,
         sizes: Option<Sizes>,
     ) -> anyhow::Result<String> {
-        let bound = T::read(bound)?;
+        let bound = bound.parse::<T>()?;
         let Buffers {
             mut vector,
             mut work,
-        } = self.buffers(heap, sizes)?;
+        } = self.buffers(sizes)?;
         let outcome = self.study.seek(line, value, bound, &mut vector, &mut work);
-        Ok(self.sought(heap, outcome, &vector)?)
+        Ok(self.sought(outcome, &vector)?)
     }
 
     // What a seek came to, which writes a vector only where it finds one.
     fn sought(
         &self,
-        heap: Global,
         outcome: Result<Looked<T>, StudyFault>,
         vector: &[u8],
     ) -> Result<String, AllocError> {
@@ -228,41 +210,50 @@ impl<T: Written> Opened<T> {
                 found: Some(time),
                 looks,
             }) => {
-                let digits = digits(heap, vector, self.inputs)?;
-                let time = time.text(heap)?;
-                format!(in heap; "found {digits} time {time} looks {looks}")
+                let digits = self.digits(vector)?;
+                format!(in self.heap; "found {digits} time {time} looks {looks}")
             }
-            _ if !places_stay(vector, 0, MARK) => overwritten(heap),
-            Ok(Looked { found: None, looks }) => format!(in heap; "nothing looks {looks}"),
-            Err(fault) => refused(heap, fault.number()),
+            _ if !places_stay(vector, 0, MARK) => overwritten(self.heap),
+            Ok(Looked { found: None, looks }) => {
+                format!(in self.heap; "nothing looks {looks}")
+            }
+            Err(fault) => refused(self.heap, fault.number()),
         }
     }
 
-    fn worst(&self, heap: Global, line: usize, sizes: Option<Sizes>) -> anyhow::Result<String> {
+    fn worst(&self, line: usize, sizes: Option<Sizes>) -> Result<String, AllocError> {
         let Buffers {
             mut vector,
             mut work,
-        } = self.buffers(heap, sizes)?;
+        } = self.buffers(sizes)?;
         let outcome = self.study.worst(line, &mut vector, &mut work);
-        Ok(self.reached(heap, outcome, &vector)?)
+        self.reached(outcome, &vector)
     }
 
     // What a worst came to.
     fn reached(
         &self,
-        heap: Global,
         outcome: Result<Greatest<T>, StudyFault>,
         vector: &[u8],
     ) -> Result<String, AllocError> {
         match outcome {
             Ok(greatest) => {
-                let time = greatest.time.text(heap)?;
-                let value = if greatest.value { 1 } else { 0 };
-                let digits = digits(heap, vector, self.inputs)?;
-                format!(in heap; "time {time} value {value} vector {digits}")
+                let time = greatest.time;
+                let value = u8::from(greatest.value);
+                let digits = self.digits(vector)?;
+                format!(in self.heap; "time {time} value {value} vector {digits}")
             }
-            Err(_) if !places_stay(vector, 0, MARK) => overwritten(heap),
-            Err(fault) => refused(heap, fault.number()),
+            Err(_) if !places_stay(vector, 0, MARK) => overwritten(self.heap),
+            Err(fault) => refused(self.heap, fault.number()),
         }
+    }
+
+    // The digits of a vector, behind which no place was written.
+    fn digits(&self, vector: &[u8]) -> Result<String, AllocError> {
+        if !places_stay(vector, self.inputs, MARK) {
+            return overwritten(self.heap);
+        }
+        let end = vector.len().min(self.inputs);
+        Digits(&vector[..end]).to_string(self.heap)
     }
 }

@@ -12,28 +12,82 @@ struct Line<'a> {
     expected: Option<&'a str>,
 }
 
-// Where a line stands; its number is counted from 1.
-#[derive(Clone, Copy)]
-struct Place<'a> {
-    file: &'a str,
-    number: usize,
-}
-
 impl<'a> Line<'a> {
     // A part of a sheet has no answer, whatever it says.
     fn of(text: &'a str) -> Line<'a> {
-        if !text.starts_with('|') {
-            if let Some((call, answer)) = text.split_once(" -> ") {
-                return Line {
-                    call,
-                    expected: Some(answer),
-                };
+        match text.split_once(" -> ") {
+            Some((call, answer)) if !text.starts_with('|') => Line {
+                call,
+                expected: Some(answer),
+            },
+            _ => Line {
+                call: text,
+                expected: None,
+            },
+        }
+    }
+}
+
+// A script that is played: what it works on, and where its answers are counted.
+#[derive(Drop)]
+struct Player<'a> {
+    heap: Global,
+    file: &'a str,
+    bench: Bench,
+    tally: &'a mut Tally,
+}
+
+impl<'a> Player<'a> {
+    // Plays the script, which agrees if it has answers, and all agree.
+    fn play(&mut self, script: &str) -> anyhow::Result<()> {
+        let before = self.tally.answers.all;
+        let mut agrees = true;
+        for (i, text) in script.lines().enumerate() {
+            if !text.starts_with('#') {
+                agrees &= self.play_line(i.saturating_add(1), text)?;
             }
         }
-        Line {
-            call: text,
-            expected: None,
+        let answered = self.tally.answers.all > before;
+        self.tally.cases.add(agrees && answered);
+        Ok(())
+    }
+
+    // Plays a line, whose number is counted from 1; whether it agrees.
+    fn play_line(&mut self, number: usize, text: &str) -> anyhow::Result<bool> {
+        let line = Line::of(text);
+        let got = self.answer(line.call)?;
+        let got = got.as_deref();
+        let agrees = line.expected == got;
+        if line.expected.is_some() || got.is_some() {
+            self.tally.answers.add(agrees);
         }
+        if !agrees {
+            let difference = self.difference(number, line, got)?;
+            self.tally.differences.push(difference)?;
+        }
+        Ok(agrees)
+    }
+
+    // The answer to a call, if it has one; where the call is not understood or fails, why.
+    fn answer(&mut self, call: &str) -> Result<Option<String>, AllocError> {
+        match self.bench.answer(call) {
+            Ok(got) => Ok(got),
+            Err(error) => Ok(Some(error.to_string(self.heap)?)),
+        }
+    }
+
+    // What differs in the answer to a line.
+    fn difference(
+        &self,
+        number: usize,
+        line: Line,
+        got: Option<&str>,
+    ) -> Result<String, AllocError> {
+        let file = self.file;
+        let call = line.call;
+        let expected = shown_answer(self.heap, line.expected)?;
+        let got = shown_answer(self.heap, got)?;
+        format!(in self.heap; "{file}:{number}: {call}: expected {expected}, got {got}")
     }
 }
 
@@ -45,88 +99,21 @@ fn shown_answer(heap: Global, answer: Option<&str>) -> Result<String, AllocError
     }
 }
 
-// What differs in the answer to a line.
-fn difference(
-    heap: Global,
-    place: Place,
-    line: Line,
-    got: Option<&str>,
-) -> Result<String, AllocError> {
-    let file = place.file;
-    let number = place.number;
-    let call = line.call;
-    let expected = shown_answer(heap, line.expected)?;
-    let got = shown_answer(heap, got)?;
-    format!(in heap; "{file}:{number}: {call}: expected {expected}, got {got}")
-}
-
 // The histories of a folder.
 pub fn check_histories(rt: &HostRuntime, folder: &str, kind: &str) -> anyhow::Result<Tally> {
     let heap = rt.alloc();
     let mut tally = Tally::new(heap);
     let folder = format!(in heap; "{folder}/{kind}")?;
-    for name in names_in(rt, folder.as_str(), ".study")? {
+    for name in names_in(rt, &folder, ".study")? {
         let file = format!(in heap; "{folder}/{name}.study")?;
-        let script = text_in(rt, file.as_str())?;
-        let agrees = play(heap, &mut tally, file.as_str(), script.as_str())?;
-        tally.cases.add(agrees);
+        let script = text_in(rt, &file)?;
+        let mut player = Player {
+            heap,
+            file: &file,
+            bench: Bench::new(heap)?,
+            tally: &mut tally,
+        };
+        player.play(&script)?;
     }
     Ok(tally)
-}
-
-// The answer to a call, if it has one; where the call is not understood or fails, why.
-fn answer_of(heap: Global, bench: &mut Bench, call: &str) -> Result<Option<String>, AllocError> {
-    match bench.answer(call) {
-        Ok(got) => Ok(got),
-        Err(error) => Ok(Some(format!(in heap; "{error}")?)),
-    }
-}
-
-// Plays a line; whether it agrees.
-fn play_line(
-    heap: Global,
-    bench: &mut Bench,
-    tally: &mut Tally,
-    place: Place,
-    text: &str,
-) -> anyhow::Result<bool> {
-    let line = Line::of(text);
-    let got = answer_of(heap, bench, line.call)?;
-    let got = got.as_deref();
-    let agrees = line.expected == got;
-    if line.expected.is_some() || got.is_some() {
-        tally.answers.add(agrees);
-    }
-    if !agrees {
-        let difference = difference(heap, place, line, got)?;
-        tally.differences.push(difference)?;
-    }
-    Ok(agrees)
-}
-
-// Plays the lines of a script; whether all agree.
-fn play_lines(
-    heap: Global,
-    bench: &mut Bench,
-    tally: &mut Tally,
-    file: &str,
-    script: &str,
-) -> anyhow::Result<bool> {
-    let mut agrees = true;
-    for (i, text) in script.lines().enumerate() {
-        if !text.starts_with('#') {
-            let number = i.saturating_add(1);
-            let place = Place { file, number };
-            agrees &= play_line(heap, bench, tally, place, text)?;
-        }
-    }
-    Ok(agrees)
-}
-
-// Plays a script; whether it has answers, and all agree.
-fn play(heap: Global, tally: &mut Tally, file: &str, script: &str) -> anyhow::Result<bool> {
-    let mut bench = Bench::new(heap)?;
-    let before = tally.answers.all;
-    let agrees = play_lines(heap, &mut bench, tally, file, script)?;
-    Ok(agrees && tally.answers.all > before)
 }

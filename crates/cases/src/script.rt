@@ -1,6 +1,6 @@
 // The steps of a script, read from its lines.
-use crate::words::{Words, bytes_of, digits_of};
-use anyhow::anyhow;
+use crate::words::Words;
+use anyhow::{bail, ensure};
 use std::alloc::Global;
 
 // A kind of time.
@@ -10,28 +10,45 @@ pub enum Kind {
     Stages,
 }
 
-// The sizes of a call's two buffers.
+// The sizes of a call's two buffers: of the values and the times of a settle, or of the vector and the work.
 #[derive(Clone, Copy)]
 pub struct Sizes {
     pub first: usize,
     pub second: usize,
 }
 
-// A call on the open study.
+// A call on the open study, with the sizes where they are written.
 #[derive(Drop)]
 pub enum StudyStep<'a> {
-    // A vector; the sizes of the values and of the times.
-    Settle(Vec<u8>, Option<Sizes>),
-    // A line, a value and a bound; the sizes of the vector and of the work.
-    Seek(usize, u8, &'a str, Option<Sizes>),
-    // A line; the sizes of the vector and of the work.
-    Worst(usize, Option<Sizes>),
-    // A line and a delay.
-    Shorten(usize, u32),
-    Lengthen(usize, u32),
-    // A line and a value.
-    Tie(usize, u8),
-    Untie(usize),
+    Settle {
+        vector: Vec<u8>,
+        sizes: Option<Sizes>,
+    },
+    Seek {
+        line: usize,
+        value: u8,
+        bound: &'a str,
+        sizes: Option<Sizes>,
+    },
+    Worst {
+        line: usize,
+        sizes: Option<Sizes>,
+    },
+    Shorten {
+        line: usize,
+        delay: u32,
+    },
+    Lengthen {
+        line: usize,
+        delay: u32,
+    },
+    Tie {
+        line: usize,
+        value: u8,
+    },
+    Untie {
+        line: usize,
+    },
 }
 
 // A cell to add, with a name or without.
@@ -47,8 +64,7 @@ pub struct CellStep {
 #[derive(Drop)]
 pub enum DraftStep<'a> {
     New,
-    // A name and a delay.
-    Input(Vec<u8>, u32),
+    Input { name: Vec<u8>, delay: u32 },
     Cell(CellStep),
     // One more line of the next sheet.
     Part(&'a str),
@@ -60,73 +76,51 @@ pub enum DraftStep<'a> {
 #[derive(Drop)]
 pub enum Step<'a> {
     Kind(Kind),
-    // A time and a delay.
-    After(&'a str, u32),
-    // A name, a number of pins and a table.
-    Entry(Vec<u8>, usize, u16),
+    After {
+        time: &'a str,
+        delay: u32,
+    },
+    Entry {
+        name: Vec<u8>,
+        pins: usize,
+        table: u16,
+    },
     Library,
-    // A cell word and a number of pins.
-    Ask(Vec<u8>, usize),
+    Ask {
+        word: Vec<u8>,
+        pins: usize,
+    },
     Draft(DraftStep<'a>),
     Seal,
     // The places of the ceilings' buffer.
-    Open(usize),
+    Open {
+        places: usize,
+    },
     Study(StudyStep<'a>),
 }
 
-fn read_kind<'a>(words: &mut Words<'a>) -> anyhow::Result<Step<'a>> {
+fn read_kind(words: &mut Words) -> anyhow::Result<Kind> {
     match words.word()? {
-        "ticks" => Ok(Step::Kind(Kind::Ticks)),
-        "stages" => Ok(Step::Kind(Kind::Stages)),
-        _ => Err(anyhow!("there is no such kind of time")),
+        "ticks" => Ok(Kind::Ticks),
+        "stages" => Ok(Kind::Stages),
+        _ => bail!("there is no such kind of time"),
     }
 }
 
-fn read_after<'a>(words: &mut Words<'a>) -> anyhow::Result<Step<'a>> {
-    let time = words.word()?;
-    Ok(Step::After(time, words.delay()?))
+fn read_input<'a>(words: &mut Words<'a>) -> anyhow::Result<DraftStep<'a>> {
+    Ok(DraftStep::Input {
+        name: words.bytes()?,
+        delay: words.number()?,
+    })
 }
 
-fn read_entry<'a>(heap: Global, words: &mut Words<'a>) -> anyhow::Result<Step<'a>> {
-    let name = words.word()?;
-    let pins = words.number()?;
-    let table = words.table()?;
-    Ok(Step::Entry(bytes_of(heap, name)?, pins, table))
-}
-
-fn read_ask<'a>(heap: Global, words: &mut Words<'a>) -> anyhow::Result<Step<'a>> {
-    let word = words.word()?;
-    let pins = words.number()?;
-    Ok(Step::Ask(bytes_of(heap, word)?, pins))
-}
-
-fn read_input<'a>(heap: Global, words: &mut Words<'a>) -> anyhow::Result<Step<'a>> {
-    let name = words.word()?;
-    let delay = words.delay()?;
-    Ok(Step::Draft(DraftStep::Input(bytes_of(heap, name)?, delay)))
-}
-
-// The name of a cell; a lone `-` is none.
-fn name_of(heap: Global, word: &str) -> anyhow::Result<Option<Vec<u8>>> {
-    match word {
-        "-" => Ok(None),
-        word => Ok(Some(bytes_of(heap, word)?)),
-    }
-}
-
-fn read_cell<'a>(heap: Global, words: &mut Words<'a>) -> anyhow::Result<Step<'a>> {
-    let name = words.word()?;
-    let word = words.word()?;
-    let delay = words.delay()?;
-    let pins = words.numbers(heap)?;
-    let word = bytes_of(heap, word)?;
-    let name = name_of(heap, name)?;
-    Ok(Step::Draft(DraftStep::Cell(CellStep {
-        name,
-        word,
-        delay,
-        pins,
-    })))
+fn read_cell<'a>(words: &mut Words<'a>) -> anyhow::Result<DraftStep<'a>> {
+    Ok(DraftStep::Cell(CellStep {
+        name: words.name()?,
+        word: words.bytes()?,
+        delay: words.number()?,
+        pins: words.numbers()?,
+    }))
 }
 
 // The two sizes, where they are written.
@@ -134,65 +128,89 @@ fn read_sizes(words: &mut Words) -> anyhow::Result<Option<Sizes>> {
     if words.is_done() {
         return Ok(None);
     }
-    let first = words.number()?;
-    let second = words.number()?;
-    Ok(Some(Sizes { first, second }))
+    Ok(Some(Sizes {
+        first: words.number()?,
+        second: words.number()?,
+    }))
 }
 
-fn read_settle<'a>(heap: Global, words: &mut Words<'a>) -> anyhow::Result<StudyStep<'a>> {
-    let vector = words.word()?;
-    let sizes = read_sizes(words)?;
-    Ok(StudyStep::Settle(digits_of(heap, vector)?, sizes))
+fn read_settle<'a>(words: &mut Words<'a>) -> anyhow::Result<StudyStep<'a>> {
+    Ok(StudyStep::Settle {
+        vector: words.digits()?,
+        sizes: read_sizes(words)?,
+    })
 }
 
 fn read_seek<'a>(words: &mut Words<'a>) -> anyhow::Result<StudyStep<'a>> {
-    let line = words.number()?;
-    let value = words.value()?;
-    let bound = words.word()?;
-    Ok(StudyStep::Seek(line, value, bound, read_sizes(words)?))
+    Ok(StudyStep::Seek {
+        line: words.number()?,
+        value: words.number()?,
+        bound: words.word()?,
+        sizes: read_sizes(words)?,
+    })
 }
 
 // The calls of which each begins with a line.
 fn read_of_line<'a>(call: &str, words: &mut Words<'a>) -> anyhow::Result<StudyStep<'a>> {
     let line = words.number()?;
-    match call {
-        "worst" => Ok(StudyStep::Worst(line, read_sizes(words)?)),
-        "shorten" => Ok(StudyStep::Shorten(line, words.delay()?)),
-        "lengthen" => Ok(StudyStep::Lengthen(line, words.delay()?)),
-        "tie" => Ok(StudyStep::Tie(line, words.value()?)),
-        "untie" => Ok(StudyStep::Untie(line)),
-        _ => Err(anyhow!("there is no such call")),
-    }
+    Ok(match call {
+        "worst" => StudyStep::Worst {
+            line,
+            sizes: read_sizes(words)?,
+        },
+        "shorten" => StudyStep::Shorten {
+            line,
+            delay: words.number()?,
+        },
+        "lengthen" => StudyStep::Lengthen {
+            line,
+            delay: words.number()?,
+        },
+        "tie" => StudyStep::Tie {
+            line,
+            value: words.number()?,
+        },
+        "untie" => StudyStep::Untie { line },
+        _ => bail!("there is no such call"),
+    })
 }
 
-fn read_study_step<'a>(
-    heap: Global,
-    call: &str,
-    words: &mut Words<'a>,
-) -> anyhow::Result<StudyStep<'a>> {
+fn read_study_step<'a>(call: &str, words: &mut Words<'a>) -> anyhow::Result<StudyStep<'a>> {
     match call {
-        "settle" => read_settle(heap, words),
+        "settle" => read_settle(words),
         "seek" => read_seek(words),
         _ => read_of_line(call, words),
     }
 }
 
-fn read_call<'a>(heap: Global, words: &mut Words<'a>) -> anyhow::Result<Step<'a>> {
-    match words.word()? {
-        "kind" => read_kind(words),
-        "after" => read_after(words),
-        "entry" => read_entry(heap, words),
-        "library" => Ok(Step::Library),
-        "ask" => read_ask(heap, words),
-        "draft" => Ok(Step::Draft(DraftStep::New)),
-        "input" => read_input(heap, words),
-        "cell" => read_cell(heap, words),
-        "draw" => Ok(Step::Draft(DraftStep::Draw)),
-        "lines" => Ok(Step::Draft(DraftStep::Lines)),
-        "seal" => Ok(Step::Seal),
-        "open" => Ok(Step::Open(words.number()?)),
-        call => Ok(Step::Study(read_study_step(heap, call, words)?)),
-    }
+fn read_call<'a>(words: &mut Words<'a>) -> anyhow::Result<Step<'a>> {
+    Ok(match words.word()? {
+        "kind" => Step::Kind(read_kind(words)?),
+        "after" => Step::After {
+            time: words.word()?,
+            delay: words.number()?,
+        },
+        "entry" => Step::Entry {
+            name: words.bytes()?,
+            pins: words.number()?,
+            table: words.table()?,
+        },
+        "library" => Step::Library,
+        "ask" => Step::Ask {
+            word: words.bytes()?,
+            pins: words.number()?,
+        },
+        "draft" => Step::Draft(DraftStep::New),
+        "input" => Step::Draft(read_input(words)?),
+        "cell" => Step::Draft(read_cell(words)?),
+        "draw" => Step::Draft(DraftStep::Draw),
+        "lines" => Step::Draft(DraftStep::Lines),
+        "seal" => Step::Seal,
+        "open" => Step::Open {
+            places: words.number()?,
+        },
+        call => Step::Study(read_study_step(call, words)?),
+    })
 }
 
 // The step that a line without its answer says.
@@ -200,10 +218,8 @@ pub fn read_step<'a>(heap: Global, line: &'a str) -> anyhow::Result<Step<'a>> {
     if let Some(text) = line.strip_prefix("| ") {
         return Ok(Step::Draft(DraftStep::Part(text)));
     }
-    let mut words = Words::of(line);
-    let step = read_call(heap, &mut words)?;
-    if !words.is_done() {
-        return Err(anyhow!("there are words too many"));
-    }
+    let mut words = Words::of(heap, line);
+    let step = read_call(&mut words)?;
+    ensure!(words.is_done(), "there are words too many");
     Ok(step)
 }

@@ -11,6 +11,7 @@ use std::alloc::{AllocError, Global};
 // A draft that answers in the words of scripts.
 #[derive(Drop)]
 pub struct Sketch {
+    heap: Global,
     draft: Draft,
 }
 
@@ -25,20 +26,15 @@ fn added(heap: Global, outcome: Result<usize, DraftFault>) -> Result<String, All
 impl Sketch {
     pub fn new(heap: Global) -> Result<Sketch, AllocError> {
         let draft = Draft::new(heap)?;
-        Ok(Sketch { draft })
+        Ok(Sketch { heap, draft })
     }
 
-    pub fn input(&mut self, heap: Global, name: &[u8], delay: u32) -> Result<String, AllocError> {
+    pub fn input(&mut self, name: &[u8], delay: u32) -> Result<String, AllocError> {
         let outcome = self.draft.add_input(name, delay);
-        added(heap, outcome)
+        added(self.heap, outcome)
     }
 
-    pub fn cell(
-        &mut self,
-        heap: Global,
-        family: &Catalogue,
-        cell: &CellStep,
-    ) -> Result<String, AllocError> {
+    pub fn cell(&mut self, family: &Catalogue, cell: &CellStep) -> Result<String, AllocError> {
         let outcome = self.draft.add_cell(
             family,
             cell.name.as_deref(),
@@ -46,40 +42,28 @@ impl Sketch {
             cell.delay,
             &cell.pins,
         );
-        added(heap, outcome)
+        added(self.heap, outcome)
     }
 
-    pub fn draw(
-        &mut self,
-        heap: Global,
-        family: &Catalogue,
-        sheet: &[u8],
-    ) -> anyhow::Result<String> {
-        let room = Room::new(heap)?;
+    pub fn draw(&mut self, family: &Catalogue, sheet: &[u8]) -> Result<String, AllocError> {
+        let room = Room::new(self.heap)?;
         match read_sheet(&mut self.draft, family, room, sheet) {
-            Ok(()) => {
-                let lines = self.draft.line_count();
-                Ok(format!(in heap; "lines {lines}")?)
-            }
+            Ok(()) => format!(in self.heap; "lines {}", self.draft.line_count()),
             Err(fault) => {
-                let number = fault.number();
-                let place = fault.place();
-                Ok(format!(in heap; "refused {number} at {place}")?)
+                format!(in self.heap; "refused {} at {}", fault.number(), fault.place())
             }
         }
     }
 
-    pub fn count(&self, heap: Global) -> Result<String, AllocError> {
-        let lines = self.draft.line_count();
-        format!(in heap; "{lines}")
+    pub fn count(&self) -> Result<String, AllocError> {
+        self.draft.line_count().to_string(self.heap)
     }
 
     // The network, or the draft again with its refusal.
     pub fn seal(self) -> Result<Network, (Sketch, DraftFault)> {
-        let Sketch { draft } = self;
-        match draft.check_seal() {
-            Ok(()) => Ok(draft.seal()),
-            Err(fault) => Err((Sketch { draft }, fault)),
+        match self.draft.check_seal() {
+            Ok(()) => Ok(self.draft.seal()),
+            Err(fault) => Err((self, fault)),
         }
     }
 }

@@ -3,17 +3,13 @@ use std::alloc::Global;
 use std::fmt;
 
 // How many of all agree.
-#[derive(Clone, Copy)]
+#[derive(Clone, Copy, Default)]
 pub struct Count {
     pub agree: u64,
     pub all: u64,
 }
 
 impl Count {
-    pub fn new() -> Count {
-        Count { agree: 0, all: 0 }
-    }
-
     // One more, which agrees or does not.
     pub fn add(&mut self, agrees: bool) {
         self.all = self.all.saturating_add(1);
@@ -30,9 +26,7 @@ impl Count {
 
 impl fmt::Display for Count {
     fn fmt<W: fmt::Write>(&self, f: &mut fmt::Formatter<W>) -> fmt::Result {
-        let agree = self.agree;
-        let all = self.all;
-        write!(f, "{agree} of {all}")
+        write!(f, "{} of {}", self.agree, self.all)
     }
 }
 
@@ -47,8 +41,8 @@ pub struct Tally {
 impl Tally {
     pub fn new(heap: Global) -> Tally {
         Tally {
-            cases: Count::new(),
-            answers: Count::new(),
+            cases: Count::default(),
+            answers: Count::default(),
             differences: Vec::new(heap),
         }
     }

@@ -1,49 +1,39 @@
 // The words of a script's line.
-use anyhow::anyhow;
+use anyhow::{Context, bail, ensure};
 use std::alloc::Global;
+use std::error::Error;
+use std::str::FromStr;
 
 // What is left of a line, read word by word.
 #[derive(Drop)]
 pub struct Words<'a> {
+    heap: Global,
     rest: Option<&'a str>,
 }
 
 impl<'a> Words<'a> {
-    pub fn of(line: &'a str) -> Words<'a> {
-        Words { rest: Some(line) }
+    pub fn of(heap: Global, line: &'a str) -> Words<'a> {
+        let rest = Some(line);
+        Words { heap, rest }
     }
 
     // The next word, up to a space or to the end.
     pub fn word(&mut self) -> anyhow::Result<&'a str> {
-        let Some(rest) = self.rest else {
-            return Err(anyhow!("a word is missing"));
+        let rest = self.rest.context("a word is missing")?;
+        let (word, rest) = match rest.split_once(' ') {
+            Some((word, rest)) => (word, Some(rest)),
+            None => (rest, None),
         };
-        let word = match rest.split_once(' ') {
-            Some((word, more)) => {
-                self.rest = Some(more);
-                word
-            }
-            None => {
-                self.rest = None;
-                rest
-            }
-        };
-        if word.is_empty() {
-            return Err(anyhow!("a word is empty"));
-        }
+        self.rest = rest;
+        ensure!(!word.is_empty(), "a word is empty");
         Ok(word)
     }
 
-    pub fn number(&mut self) -> anyhow::Result<usize> {
-        Ok(self.word()?.parse::<usize>()?)
-    }
-
-    pub fn delay(&mut self) -> anyhow::Result<u32> {
-        Ok(self.word()?.parse::<u32>()?)
-    }
-
-    pub fn value(&mut self) -> anyhow::Result<u8> {
-        Ok(self.word()?.parse::<u8>()?)
+    pub fn number<N: FromStr>(&mut self) -> anyhow::Result<N>
+    where
+        N::Err: Error,
+    {
+        Ok(self.word()?.parse::<N>()?)
     }
 
     pub fn table(&mut self) -> anyhow::Result<u16> {
@@ -51,15 +41,43 @@ impl<'a> Words<'a> {
     }
 
     // The numbers to the end.
-    pub fn numbers(&mut self, heap: Global) -> anyhow::Result<Vec<usize>> {
-        let mut numbers = Vec::new(heap);
-        if let Some(rest) = self.rest {
+    pub fn numbers(&mut self) -> anyhow::Result<Vec<usize>> {
+        let mut numbers = Vec::new(self.heap);
+        if let Some(rest) = self.rest.take() {
             for word in rest.split(' ') {
                 numbers.push(word.parse::<usize>()?)?;
             }
         }
-        self.rest = None;
         Ok(numbers)
+    }
+
+    // The bytes of a name or a cell word: each as it is written, or as `%` and two hexadecimal digits; a lone `%` is none.
+    pub fn bytes(&mut self) -> anyhow::Result<Vec<u8>> {
+        bytes_of(self.heap, self.word()?)
+    }
+
+    // The same; a lone `-` is no name.
+    pub fn name(&mut self) -> anyhow::Result<Option<Vec<u8>>> {
+        match self.word()? {
+            "-" => Ok(None),
+            word => Ok(Some(bytes_of(self.heap, word)?)),
+        }
+    }
+
+    // The bytes of a vector, a digit for each; a lone `-` is none.
+    pub fn digits(&mut self) -> anyhow::Result<Vec<u8>> {
+        let mut bytes = Vec::new(self.heap);
+        let word = self.word()?;
+        if word == "-" {
+            return Ok(bytes);
+        }
+        for b in word.bytes() {
+            match b {
+                b'0'..=b'9' => bytes.push(b - b'0')?,
+                _ => bail!("a vector has another byte than a digit"),
+            }
+        }
+        Ok(bytes)
     }
 
     // Whether all words are read.
@@ -68,39 +86,21 @@ impl<'a> Words<'a> {
     }
 }
 
-// The bytes of a name or a cell word: each as it is written, or as `%` and two hexadecimal digits; a lone `%` is none.
-pub fn bytes_of(heap: Global, word: &str) -> anyhow::Result<Vec<u8>> {
+fn bytes_of(heap: Global, word: &str) -> anyhow::Result<Vec<u8>> {
     let mut bytes = Vec::new(heap);
     if word == "%" {
         return Ok(bytes);
     }
-    let mut first = true;
-    for piece in word.split('%') {
-        if first {
-            first = false;
-            bytes.extend_from_slice(piece.as_bytes())?;
-        } else {
-            let Some((code, rest)) = piece.split_at_checked(2) else {
-                return Err(anyhow!("two digits are missing after a %"));
-            };
-            bytes.push(u8::from_str_radix(code, 16)?)?;
-            bytes.extend_from_slice(rest.as_bytes())?;
-        }
+    let mut pieces = word.split('%');
+    if let Some(first) = pieces.next() {
+        bytes.extend_from_slice(first.as_bytes())?;
     }
-    Ok(bytes)
-}
-
-// The bytes of a vector, a digit for each; a lone `-` is none.
-pub fn digits_of(heap: Global, word: &str) -> anyhow::Result<Vec<u8>> {
-    let mut bytes = Vec::new(heap);
-    if word == "-" {
-        return Ok(bytes);
-    }
-    for b in word.bytes() {
-        match b {
-            b'0'..=b'9' => bytes.push(b - b'0')?,
-            _ => return Err(anyhow!("a vector has another byte than a digit")),
-        }
+    for piece in pieces {
+        let (code, rest) = piece
+            .split_at_checked(2)
+            .context("two digits are missing after a %")?;
+        bytes.push(u8::from_str_radix(code, 16)?)?;
+        bytes.extend_from_slice(rest.as_bytes())?;
     }
     Ok(bytes)
 }
