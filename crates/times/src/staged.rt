@@ -109,27 +109,3 @@ impl FromStr for Staged {
         })
     }
 }
-
-#[cfg(test)]
-mod tests {
-    use super::*;
-    use std::test::Fail;
-
-    #[test]
-    fn stages_are_read_and_printed(rt: HostRuntime) -> Result<(), Fail> {
-        let time: Staged = "10:3".parse()?;
-        assert_eq!(rt;
-            time,
-            Staged {
-                ticks: 10,
-                stages: 3
-            }
-        );
-        assert_eq!(rt; time.to_string(rt.alloc())?.as_str(), "10:3");
-        assert_eq!(rt; "10".parse::<Staged>(), Err(StagedError::NoStages));
-        for text in ["", ":", "10:", ":3", "10:3:1", "10:4294967296"] {
-            assert!(rt; text.parse::<Staged>().is_err());
-        }
-        Ok(())
-    }
-}

@@ -66,23 +66,3 @@ impl FromStr for Ticks {
         Ok(Ticks { ticks })
     }
 }
-
-#[cfg(test)]
-mod tests {
-    use super::*;
-    use std::test::Fail;
-
-    #[test]
-    fn ticks_are_read_and_printed(rt: HostRuntime) -> Result<(), Fail> {
-        let time: Ticks = "18446744073709551615".parse()?;
-        assert_eq!(rt; time, Ticks { ticks: u64::MAX });
-        assert_eq!(rt;
-            time.to_string(rt.alloc())?.as_str(),
-            "18446744073709551615"
-        );
-        for text in ["", "x", "5:1", "18446744073709551616"] {
-            assert!(rt; text.parse::<Ticks>().is_err());
-        }
-        Ok(())
-    }
-}

@@ -10,7 +10,7 @@ mod tests {
     use gates::plain::Plain;
     use library::board::board;
     use std::test::Fail;
-    use times::staged::Staged;
+    use times::staged::{Staged, StagedError};
     use times::ticks::Ticks;
     use times::time::Time;
 
@@ -70,5 +70,31 @@ mod tests {
         assert_eq!(rt; decided_at(0xe4, 3, 2, at), ticks(9));
         // a table with one output for all rows: the earliest pin
         assert_eq!(rt; decided_at(0xff, 3, 0, at), ticks(2));
+    }
+
+    #[test]
+    fn ticks_are_read_and_printed(rt: HostRuntime) -> Result<(), Fail> {
+        let time: Ticks = "18446744073709551615".parse()?;
+        assert_eq!(rt; time, ticks(u64::MAX));
+        assert_eq!(rt;
+            time.to_string(rt.alloc())?.as_str(),
+            "18446744073709551615"
+        );
+        for text in ["", "x", "5:1", "18446744073709551616"] {
+            assert!(rt; text.parse::<Ticks>().is_err());
+        }
+        Ok(())
+    }
+
+    #[test]
+    fn stages_are_read_and_printed(rt: HostRuntime) -> Result<(), Fail> {
+        let time: Staged = "10:3".parse()?;
+        assert_eq!(rt; time, staged(10, 3));
+        assert_eq!(rt; time.to_string(rt.alloc())?.as_str(), "10:3");
+        assert_eq!(rt; "10".parse::<Staged>(), Err(StagedError::NoStages));
+        for text in ["", ":", "10:", ":3", "10:3:1", "10:4294967296"] {
+            assert!(rt; text.parse::<Staged>().is_err());
+        }
+        Ok(())
     }
 }
