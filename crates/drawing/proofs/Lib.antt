@@ -1,4 +1,3 @@
-pub mod Stack
 pub mod Values
 pub mod Steps
 pub mod Turns

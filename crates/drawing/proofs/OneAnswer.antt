@@ -1,8 +1,10 @@
 -- What is said of a text gives its answer, and it has no other. Assumes nothing.
-use Rattle.std.proofs.Common.{◌≡◌, ℕ, ◌≤◌, List, IsErrAnd, Ok, Err, Result, sym, refl, ap, ◌∙◌}
+use Rattle.std.proofs.Common.{◌≡◌, ℕ, ◌≤◌, true, false, List, IsErrAnd, Ok, Err, Result, sym, refl, ap, ◌∙◌, MatchResult}
+use Rattle.std.specs.Result.{is_err}
+use Rattle.std.proofs.lemmas.Bool.{false≢true}
 use Rattle.families.specs.Tables.{Tables}
 use Rattle.network.specs.Sketches.{Sketch, empty}
-use Rattle.sheets.specs.Sheet.{max_depth, LawfulForms, sheet_depth, sheet_text}
+use Rattle.sheets.specs.Sheet.{max_depth, Form, LawfulForms, sheet_depth, sheet_text}
 use Rattle.sheets.specs.Verdicts.{Verdict, Judged}
 use Rattle.sheets.proofs.OneVerdict.{one_verdict}
 use Rattle.grammar.specs.Faults.{verdict}
@@ -10,7 +12,7 @@ use Rattle.grammar.specs.declared.fault.GrammarFault.{GrammarFault}
 use Rattle.grammar.specs.declared.fault.GrammarFault.TheVariants.{TooLong, Broken, TooDeep}
 use Rattle.drawing.specs.declared.fault.SheetFault.{SheetFault}
 use Rattle.drawing.specs.declared.fault.SheetFault.TheVariants.{Grammar}
-use Rattle.drawing.specs.Drawing.{Answer}
+use Rattle.drawing.specs.Drawing.{Answer, draw_sheet}
 use Rattle.drawing.specs.Faults.{refused_by, answered}
 use Rattle.drawing.specs.Reading.{answer_to, Reading, OnlyAnswer, SheetRead}
 
@@ -44,3 +46,16 @@ grammar_answer family (TooDeep place) = refl
 pub grammar_broke : (family : Tables) (text : List ℕ) (r : Result (Unit {0}) SheetFault) (f : GrammarFault) (after : Sketch) → IsErrAnd r (λ y. y ≡ Grammar f) → Judged text (verdict f) → after ≡ empty → SheetRead family text r after
 grammar_broke family text (Ok u) f after e judged none = absurd e
 grammar_broke family text (Err y) f after e judged none = (record { verdict = verdict f; judged = judged; follows = ap refused_by e ∙ grammar_answer family f }, none)
+
+-- what a draft holds after a refusal, or after none
+pub left_err : (r : Result (Unit {0}) SheetFault) (drawn after : Sketch) → is_err r ≡ true → after ≡ empty → MatchResult r (λ _. after ≡ drawn) (λ _. after ≡ empty)
+left_err (Ok x) drawn after e h = absurd (false≢true e)
+left_err (Err f) drawn after e h = h
+
+pub left_ok : (r : Result (Unit {0}) SheetFault) (drawn after : Sketch) → is_err r ≡ false → after ≡ drawn → MatchResult r (λ _. after ≡ drawn) (λ _. after ≡ empty)
+left_ok (Ok x) drawn after e h = h
+left_ok (Err f) drawn after e h = absurd (false≢true (sym e))
+
+pub read_drawn : (family : Tables) (text : List ℕ) (forms : List Form) (r : Result (Unit {0}) SheetFault) (drawn after : Sketch) → Judged text (Verdict.sheet forms) → answered r drawn ≡ draw_sheet family forms → MatchResult r (λ _. after ≡ drawn) (λ _. after ≡ empty) → SheetRead family text r after
+read_drawn family text forms (Ok x) drawn after j e h = record { verdict = Verdict.sheet forms; judged = j; follows = ap Answer.done h ∙ e }
+read_drawn family text forms (Err f) drawn after j e h = (record { verdict = Verdict.sheet forms; judged = j; follows = e }, h)

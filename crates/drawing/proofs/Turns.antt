@@ -1,17 +1,14 @@
 -- One word drawn, by what the draft answers. Assumes nothing.
 use Rattle.std.proofs.Common.{◌≡◌, ℕ, ◌<◌, List, [], ◌∷◌, length, IsErrAnd, Some, None, Ok, Err, Option, Result, sym, refl, ap, ◌∙◌, arith}
 use Rattle.families.specs.Tables.{Tables}
-use Rattle.names.specs.Kept.{bytes_of}
 use Rattle.network.specs.Refusals.{number}
 use Rattle.network.specs.Sketches.{Sketch, line_named}
 use Rattle.network.specs.declared.fault.DraftFault.{DraftFault}
 use Rattle.drawing.specs.declared.fault.Placed.{Placed}
 use Rattle.drawing.specs.declared.fault.SheetFault.{SheetFault}
 use Rattle.drawing.specs.declared.fault.SheetFault.TheVariants.{Draft}
-use Rattle.drawing.specs.declared.pen.Pen.{Pen}
 use Rattle.drawing.specs.Drawing.{Answer, then, name_free, delay_from, add_cell}
 use Rattle.drawing.specs.Faults.{refused_by, answered, placed}
-use Rattle.drawing.specs.Pens.{open_stack, picture}
 use Rattle.drawing.specs.Pictures.{Opened, Picture, with_cells, with_pins, inner, inner_pin, with_delay, delayed, label, draw_name, draw_delay, draw_close}
 
 -- A fault that went on through `?`.
@@ -32,14 +29,6 @@ draft_broke (Err f) place l (Err y) a drawn e h k =
 pub sheet_broke : {X : Type 0} (out : Result (Unit {0}) SheetFault) (f : SheetFault) (a : Answer X) (drawn : X) → IsErrAnd out (λ y. y ≡ f) → a ≡ refused_by f → a ≡ answered out drawn
 sheet_broke (Ok x) f a drawn h e = absurd h
 sheet_broke (Err y) f a drawn h e = e ∙ ap refused_by (sym h)
-
--- Pictures.
-
-pub picture_of : (before after : Pen) (s t : Sketch) (cells : List Opened) → after.name ≡ before.name → open_stack after ≡ cells → s ≡ t → record { sketch = s; name = bytes_of before.name; open_cells = cells } ≡ picture after t
-picture_of before after s t cells n c e =
-    ap (λ v. record { sketch = v; name = bytes_of before.name; open_cells = cells }) e
-    ∙ ap (λ v. record { sketch = t; name = bytes_of v; open_cells = cells }) (sym n)
-    ∙ ap (λ v. record { sketch = t; name = bytes_of after.name; open_cells = v }) (sym c)
 
 -- Names.
 
@@ -85,13 +74,9 @@ delayed_cell p (c ∷ cs) delay l = refl
 
 -- Closing brackets.
 
-pub no_label : (form : List ℕ) (cells : List Opened) → 0 < length cells → label form cells ≡ None
-no_label form [] l = absurd (omega arith)
-no_label form (c ∷ cs) l = refl
-
-module _ (family : Tables) (p : Picture) (c : Opened) (cs : List Opened) (name : Option (List ℕ)) where
+module _ (family : Tables) (p : Picture) (c : Opened) (cs : List Opened) where
   abbrev closing : Answer (Sketch × ℕ) → Answer Picture
   closing a = then a (λ cell. Answer.done (record { sketch = cell.0; name = p.name; open_cells = inner_pin cell.1 cs }))
 
-  pub close_by : (cells : List Opened) (a : Answer (Sketch × ℕ)) → cells ≡ c ∷ cs → label p.name cs ≡ name → add_cell family c.place name c.word c.delay c.pins p.sketch ≡ a → draw_close family p cells ≡ closing a
-  close_by cells a e l h = ap (draw_close family p) e ∙ ap (λ v. closing (add_cell family c.place v c.word c.delay c.pins p.sketch)) l ∙ ap closing h
+  pub close_by : (cells : List Opened) (a : Answer (Sketch × ℕ)) → cells ≡ c ∷ cs → add_cell family c.place (label p.name cs) c.word c.delay c.pins p.sketch ≡ a → draw_close family p cells ≡ closing a
+  close_by cells a e h = ap (draw_close family p) e ∙ ap closing h

@@ -1,5 +1,5 @@
 // One word drawn with the pen into the draft.
-ghost use Rattle.std.specs.Prelude.{◌≡◌, ◌<◌, ◌≤◌, true, length};
+ghost use Rattle.std.specs.Prelude.{◌≡◌, ◌<◌, ◌≤◌, true, length, option_copied};
 ghost use Rattle.lines.specs.Limits.{max_pins};
 ghost use Rattle.names.specs.Kept.{bytes_of};
 ghost use Rattle.names.specs.Names.{lawful_name};
@@ -9,7 +9,7 @@ ghost use Rattle.grammar.specs.Views.{view};
 ghost use Rattle.drawing.specs.Faults.{answered};
 ghost use Rattle.drawing.specs.Fits.{inner_pins, Ready, InputReady, Fits};
 ghost use Rattle.drawing.specs.Pens.{open_stack, picture};
-ghost use Rattle.drawing.specs.Pictures.{draw_input, draw_name, draw_delay, draw_close, draw_word};
+ghost use Rattle.drawing.specs.Pictures.{label, draw_input, draw_name, draw_delay, draw_close, draw_word};
 
 use crate::fault::{SheetFault, at};
 use crate::pen::Pen;
@@ -32,10 +32,10 @@ impl Pen {
     // A name: between cells the form's, in a cell a pin's.
     fn draw_name(&mut self, draft: &Draft, bytes: &[u8], place: usize) -> Result<(), SheetFault>
         requires lawful { lawful_name bytes.now ≡ true }
-        requires few { inner_pins (open_stack self.old) < max_pins }
+        requires few { inner_pins (open_stack self.old.stack) < max_pins }
         ensures { draw_name (picture self.old (sketch draft.now)) bytes.now place ≡ answered result (picture self.new (sketch draft.now)) }
     {
-        if self.depth == 0 {
+        if self.stack.is_empty() {
             at(draft.check_name(bytes), place)?;
             self.name = Name::of(bytes);
             return Ok(());
@@ -43,7 +43,7 @@ impl Pen {
         match draft.line_named(bytes) {
             None => Err(SheetFault::NoLine { place }),
             Some(line) => {
-                self.add_pin(line);
+                self.stack.add_pin(line);
                 Ok(())
             }
         }
@@ -57,39 +57,45 @@ impl Pen {
         place: usize,
     ) -> Result<(), SheetFault>
         requires short { length digits.now ≤ max_digits }
-        requires ready { InputReady (sketch draft.old) (bytes_of self.old.name) (open_stack self.old) }
+        requires ready { InputReady (sketch draft.old) (bytes_of self.old.name) (open_stack self.old.stack) }
         ensures { draw_delay (picture self.old (sketch draft.old)) digits.now place ≡ answered result (picture self.new (sketch draft.new)) }
     {
         let delay = value(digits);
-        if self.depth == 0 {
+        if self.stack.is_empty() {
             at(draft.add_input(self.name.as_bytes(), delay), place)?;
             return Ok(());
         }
         at(check_delay(delay), place)?;
-        self.set_delay(delay);
+        self.stack.set_delay(delay);
         Ok(())
     }
 
-    // A closing bracket: of the innermost open cell, which is added, or of a form.
-    fn close<F: Family>(&mut self, draft: &mut Draft, family: &F) -> Result<(), SheetFault>
-        requires { Ready (sketch draft.old) (bytes_of self.old.name) (open_stack self.old) }
-        ensures { draw_close (F.Family.assigns family.now) (picture self.old (sketch draft.old)) (open_stack self.old) ≡ answered result (picture self.new (sketch draft.new)) }
+    // The name of a cell that is no longer open: the form's, where it stood in no other cell.
+    fn label(&self) -> Option<&[u8]>
+        ensures { option_copied result ≡ label (bytes_of self.now.name) (open_stack self.now.stack) }
     {
-        if self.depth == 0 {
-            return Ok(());
+        if self.stack.is_empty() {
+            Some(self.name.as_bytes())
+        } else {
+            None
         }
-        let cell = self.pop();
+    }
+
+    // A closing bracket: of the innermost open cell, which is added and is a pin of the cell around it, or of a form.
+    fn close<F: Family>(&mut self, draft: &mut Draft, family: &F) -> Result<(), SheetFault>
+        requires { Ready (sketch draft.old) (bytes_of self.old.name) (open_stack self.old.stack) }
+        ensures { draw_close (F.Family.assigns family.now) (picture self.old (sketch draft.old)) (open_stack self.old.stack) ≡ answered result (picture self.new (sketch draft.new)) }
+    {
+        let Some(cell) = self.stack.pop() else {
+            return Ok(());
+        };
         let word = cell.word.as_bytes();
-        let pins = &cell.pins[..cell.count];
-        if self.depth == 0 {
-            at(
-                draft.add_cell(family, Some(self.name.as_bytes()), word, cell.delay, pins),
-                cell.place,
-            )?;
-            return Ok(());
-        }
-        let line = at(draft.add_cell(family, None, word, cell.delay, pins), cell.place)?;
-        self.add_pin(line);
+        let pins = cell.pins.as_slice();
+        let line = at(
+            draft.add_cell(family, self.label(), word, cell.delay, pins),
+            cell.place,
+        )?;
+        self.stack.add_pin(line);
         Ok(())
     }
 
@@ -107,12 +113,12 @@ impl Pen {
             Word::Open(Opening::Input, _, place) => self.draw_input(draft, place),
             Word::Open(Opening::Line, _, _) => Ok(()),
             Word::Open(Opening::Cell, _, place) => {
-                self.open_cell(place);
+                self.stack.open(place);
                 Ok(())
             }
             Word::Name(bytes, place) => self.draw_name(draft, bytes, place),
             Word::CellWord(bytes, _) => {
-                self.set_word(Name::of(bytes));
+                self.stack.set_word(Name::of(bytes));
                 Ok(())
             }
             Word::Delay(digits, place) => self.draw_delay(draft, digits, place),

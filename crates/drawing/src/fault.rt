@@ -50,8 +50,8 @@ impl SheetFault {
     {
         match self {
             SheetFault::Grammar(fault) => fault.number(),
-            SheetFault::NoLine { place: _ } => 3,
-            SheetFault::Draft { fault, place: _ } => fault.number(),
+            SheetFault::NoLine { .. } => 3,
+            SheetFault::Draft { fault, .. } => fault.number(),
         }
     }
 
@@ -61,8 +61,7 @@ impl SheetFault {
     {
         match self {
             SheetFault::Grammar(fault) => fault.place(),
-            SheetFault::NoLine { place } => place,
-            SheetFault::Draft { fault: _, place } => place,
+            SheetFault::NoLine { place } | SheetFault::Draft { place, .. } => place,
         }
     }
 }
@@ -71,8 +70,5 @@ impl SheetFault {
 pub(crate) fn at<T>(r: Result<T, DraftFault>, place: usize) -> Result<T, Placed>
     ensures { result ≡ placed place r }
 {
-    match r {
-        Ok(x) => Ok(x),
-        Err(fault) => Err(Placed { fault, place }),
-    }
+    r.map_err(|fault| Placed { fault, place })
 }

@@ -1,28 +1,45 @@
 // What the pen is: where the drawing of a sheet stands.
-ghost use Rattle.std.specs.Prelude.{◌≡◌, ◌≤◌, length};
-ghost use Rattle.lines.specs.Limits.{max_pins};
-ghost use Rattle.sheets.specs.Sheet.{max_depth};
+ghost use Rattle.std.specs.Prelude.{◌≡◌};
+ghost use Rattle.drawing.specs.Pens.{opened};
+ghost use Rattle.drawing.specs.Pictures.{just_open};
 
+use arrayvec::ArrayVec;
 use grammar::read::MAX_DEPTH;
 use lines::limits::MAX_PINS;
 use names::name::Name;
 
 // A cell whose closing bracket is still to come.
-#[derive(Clone, Copy)]
+#[derive(Drop)]
 pub(crate) struct OpenCell {
     pub(crate) place: usize,
     pub(crate) word: Name,
     pub(crate) delay: u32,
-    pub(crate) pins: [usize; MAX_PINS],
-    pub(crate) count: usize,
-    ghost few: { (count ≤ max_pins) × (length pins ≡ max_pins) },
+    pub(crate) pins: ArrayVec<usize, MAX_PINS>,
 }
 
-// The name of the form, and the open cells in a table of eight places.
+// The open cells, the innermost last. There is a place for each, so that none can want memory.
+#[derive(Drop)]
+pub(crate) struct Stack {
+    pub(crate) cells: ArrayVec<OpenCell, MAX_DEPTH>,
+}
+
+// The name of the form, and the open cells.
 #[derive(Drop)]
 pub(crate) struct Pen {
-    pub(crate) cells: [OpenCell; MAX_DEPTH],
-    pub(crate) depth: usize,
+    pub(crate) stack: Stack,
     pub(crate) name: Name,
-    ghost shallow: { (depth ≤ max_depth) × (length cells ≡ max_depth) },
+}
+
+// A cell of which only the opening bracket was drawn, at the start.
+impl Default for OpenCell {
+    ghost is_default = { λ cell. opened cell ≡ just_open 0 };
+
+    fn default() -> Self {
+        OpenCell {
+            place: 0,
+            word: Name::of(b""),
+            delay: 0,
+            pins: ArrayVec::new(),
+        }
+    }
 }

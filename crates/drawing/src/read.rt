@@ -11,10 +11,11 @@ ghost use Rattle.drawing.specs.Pictures.{blank, drawn_by};
 ghost use Rattle.drawing.specs.Reading.{SheetRead, OnlyAnswer};
 
 use crate::fault::{SheetFault, at};
-use crate::pen::Pen;
+use crate::pen::{Pen, Stack};
 use families::family::Family;
 use grammar::room::Room;
 use grammar::word::Word;
+use names::name::Name;
 use network::draft::Draft;
 
 // Draws the words, one after another, into an empty draft.
@@ -23,7 +24,10 @@ fn draw_words<F: Family>(draft: &mut Draft, family: &F, words: &[Word]) -> Resul
     requires fit { FitAll (F.Family.assigns family.now) blank (views words.now) }
     ensures { drawn_by (F.Family.assigns family.now) (views words.now) ≡ answered result (sketch draft.new) }
 {
-    let mut pen = Pen::new();
+    let mut pen = Pen {
+        stack: Stack::new(),
+        name: Name::of(b""),
+    };
     for word in words {
         pen.draw_word(draft, family, *word)?;
     }
@@ -60,11 +64,9 @@ pub fn read_sheet<'a, F: Family>(
 {
     draft.clear();
     let words = room.read(sheet)?;
-    match draw_sealable(draft, family, words.as_slice(), sheet.len()) {
-        Ok(()) => Ok(()),
-        Err(fault) => {
-            draft.clear();
-            Err(fault)
-        }
+    let drawn = draw_sealable(draft, family, words.as_slice(), sheet.len());
+    if drawn.is_err() {
+        draft.clear();
     }
+    drawn
 }

@@ -1,12 +1,12 @@
-use Rattle.std.proofs.Common.{[], sym, refl, ap, ◌∙◌, subst, arith}
+use Rattle.std.proofs.Common.{[], sym, ap, ◌∙◌, subst}
 use Rattle.names.specs.Kept.{bytes_of}
 use Rattle.network.specs.Drafts.{sketch}
 use Rattle.network.specs.Refusals.{Checked, NameWrong}
 use Rattle.drawing.specs.Drawing.{Answer}
 use Rattle.drawing.specs.Pens.{picture}
-use Rattle.drawing.proofs.Stack.{no_cells, some_cells}
+use Rattle.drawing.specs.Pictures.{with_cells}
 use Rattle.drawing.proofs.Steps.{name_refused, name_fine}
-use Rattle.drawing.proofs.Turns.{placed_ok, draft_broke, picture_of, form_name, pin_missing, pin_found}
+use Rattle.drawing.proofs.Turns.{placed_ok, draft_broke, form_name, pin_missing, pin_found}
 use Rattle.drawing.proofs.pen.Pen.draw_name.Goals as goal
 
 pub returns-in_err-at : goal.returns-in_err-at
@@ -16,25 +16,25 @@ returns-in_err-at c =
     let name = c.args.bytes.now in
     let place = c.args.place in
     draft_broke c.check_name.result place c.in_err-at.field-0.0 c.from_residual.result _ _ (sym c.at.ensures ∙ c.in_err-at.was) c.from_residual.ensures.1
-    (λ f e. form_name p name place _ (no_cells c.args.self.now c.if-self-eq0.true) (name_refused s name place _ c.requires.lawful (subst (Checked (NameWrong s name)) e c.check_name.ensures)))
+    (λ f e. form_name p name place _ c.if-is_empty.ensures (name_refused s name place _ c.requires.lawful (subst (Checked (NameWrong s name)) e c.check_name.ensures)))
 
-pub returns-then-self-eq0 : goal.returns-then-self-eq0
-returns-then-self-eq0 c =
+pub returns-then-is_empty : goal.returns-then-is_empty
+returns-then-is_empty c =
     let s = sketch c.args.draft.now in
     let p = picture c.args.self.now s in
     let name = c.args.bytes.now in
     let place = c.args.place in
-    let none = no_cells c.args.self.now c.if-self-eq0.true in
+    let none = c.if-is_empty.ensures in
     let ok = placed_ok c.check_name.result place _ (sym c.at.ensures ∙ c.in_ok-at.was) in
     form_name p name place _ none (name_fine s name place (subst (Checked (NameWrong s name)) ok c.check_name.ensures))
     ∙ ap (λ v. Answer.done (record { sketch = s; name = v; open_cells = [] })) (sym c.of-self.ensures)
     ∙ ap (λ v. Answer.done (record { sketch = s; name = bytes_of c.of-self.result; open_cells = v })) (sym none)
 
 pub returns-in-None : goal.returns-in-None
-returns-in-None c = pin_missing (picture c.args.self.now (sketch c.args.draft.now)) c.args.bytes.now c.args.place (some_cells c.args.self.now (omega (arith, c.if-self-eq0.false))) (sym c.in-None.ensures.value)
+returns-in-None c = pin_missing (picture c.args.self.now (sketch c.args.draft.now)) c.args.bytes.now c.args.place c.if-is_empty.ensures (sym c.in-None.ensures.value)
 
 pub returns-in-Some : goal.returns-in-Some
 returns-in-Some c =
     let s = sketch c.args.draft.now in
-    pin_found (picture c.args.self.now s) c.args.bytes.now c.args.place c.in-Some.line (some_cells c.args.self.now (omega (arith, c.if-self-eq0.false))) (sym c.in-Some.ensures.value)
-    ∙ ap Answer.done (picture_of c.args.self.now c.add_pin.new.self s s _ c.add_pin.ensures.name c.add_pin.ensures.cells refl)
+    pin_found (picture c.args.self.now s) c.args.bytes.now c.args.place c.in-Some.line c.if-is_empty.ensures (sym c.in-Some.ensures.value)
+    ∙ ap (λ v. Answer.done (with_cells (picture c.args.self.now s) v)) (sym c.add_pin.ensures)
