@@ -3,7 +3,7 @@ ghost use Rattle.std.specs.Prelude.{◌≡◌};
 ghost use Rattle.cells.specs.Pins.{all_pins, at_pin, with_pin};
 
 // A field for each of four pins, and no array: who passes an array of a type parameter on has to show that it fits the
-// memory, which code over any kind of time cannot.
+// memory, which code over any kind of time cannot. So there is no slice, and pins are walked by their numbers.
 #[derive(Clone, Copy)]
 pub struct Pins<X> {
     pub zero: X,

@@ -1,7 +1,7 @@
 -- Latest times brought from one setting to another, line by line. Assumes nothing.
-use Rattle.std.proofs.Common.{◌≡◌, ℕ, ◌+◌, ◌<◌, ◌≤◌, Bool, true, false, not, ◌≢◌, List, length, get_or, set, Decides, Option, sym, ◌∙◌, subst, ⊎_elim, arith, length-set, get_or-set_other, get_or-set_same}
+use Rattle.std.proofs.Common.{◌≡◌, ℕ, ◌+◌, ◌<◌, ◌≤◌, Bool, true, false, not, ◌≢◌, List, length, get_or, set, take, Decides, Option, sym, ◌∙◌, subst, ⊎_elim, arith, length-set, get_or-set_other, get_or-set_same}
 use mathlib.Core.Bool.{false≢true}
-use Rattle.std.proofs.lemmas.List.{get_or_read}
+use Rattle.std.proofs.lemmas.List.{get_or_read, get_or-take}
 use Rattle.std.proofs.lemmas.Bool.{cases_eq, not-true, not-false}
 use Rattle.lines.specs.declared.line.Driver.{Driver}
 use Rattle.lines.specs.declared.line.Driver.TheVariants.{Input, Output}
@@ -28,6 +28,14 @@ pub so_far_of : {Time : Type 0} (kind : Kind Time) (tied : ℕ → Bool) (lines 
 so_far_of {Time} kind tied lines new old upto number work work' changed changed' same same_marks so_far =
     subst (λ (w : List (Latest Time)). SoFar kind tied lines new old upto number w changed') (sym same)
     (subst (λ (m : List Bool). SoFar kind tied lines new old upto number work m) (sym same_marks) so_far)
+
+-- a line among the first lines, and that it is lawful
+pub front_at : (lines : List Line) (upto number : ℕ) → number < upto → get_or (take upto lines) number no_line ≡ line_at lines number
+front_at lines upto number h = get_or-take upto lines number no_line h
+
+pub front_lawful : (lines : List Line) (upto number : ℕ) → Lawful lines → upto ≤ length lines → number < upto → LawfulDriver (inputs lines) number (get_or (take upto lines) number no_line).driver
+front_lawful lines upto number lawful few h =
+    subst (λ (l : Line). LawfulDriver (inputs lines) number l.driver) (sym (front_at lines upto number h)) (lawful_at lines number no_line lawful (omega arith)).in_order
 
 -- what holds of each number below, and of the number, holds of each number up to it
 one_more : (P : ℕ → Type 0) (n : ℕ) → ((k : ℕ) → k < n → P k) → P n → (k : ℕ) → k < n + 1 → P k

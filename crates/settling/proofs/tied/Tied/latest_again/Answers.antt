@@ -1,11 +1,11 @@
-use Rattle.std.proofs.Common.{◌≡◌, ◌+◌, ◌<◌, get_or, take, sym, refl, ap, ◌∙◌, subst, arith}
-use Rattle.std.proofs.lemmas.List.{get_or-take, length-take-le}
+use Rattle.std.proofs.Common.{◌+◌, ◌<◌, sym, refl, ap, ◌∙◌, arith}
+use Rattle.std.proofs.lemmas.List.{length-take-le}
 use Rattle.lines.specs.declared.line.Line.{Line}
-use Rattle.lines.specs.Lines.{no_line, line_at, inputs, LawfulDriver}
-use Rattle.lines.proofs.Lawfuls.{lawful_at, lawful_of}
+use Rattle.lines.specs.Lines.{inputs}
+use Rattle.lines.proofs.Lawfuls.{lawful_of}
 use Rattle.settling.specs.Settle.{tied_by}
 use Rattle.settling.specs.Latest.{in_setting, latest_driver, latest_line, stays}
-use Rattle.settling.proofs.LatestAgain.{so_far_of, line_stays, line_again}
+use Rattle.settling.proofs.LatestAgain.{front_at, front_lawful, so_far_of, line_stays, line_again}
 use Rattle.settling.proofs.tied.Tied.latest_again.Goals as goal
 use Rattle.settling.proofs.tied.Tied.latest_again.Goals.{then-not-has_stayed, else-not-has_stayed}
 
@@ -23,18 +23,14 @@ loop-number-init g c = (
 pub has_stayed-requires : goal.has_stayed-requires
 has_stayed-requires g c =
     let lines = c.args.self.lines.now in
-    let number = c.loop-number.number in
     let long = length-take-le c.args.upto lines c.requires.upto in
-    let here : get_or (take c.args.upto lines) number no_line ≡ line_at lines number = get_or-take c.args.upto lines number no_line (omega arith) in
-    ((inputs lines, subst (λ (l : Line). LawfulDriver (inputs lines) number l.driver) (sym here) (lawful_at lines number no_line (lawful_of lines c.args.self.lawful) (omega arith)).in_order), omega (arith, c.loop-number.invariant.1.size))
+    ((inputs lines, front_lawful lines c.args.upto c.loop-number.number (lawful_of lines c.args.self.lawful) c.requires.upto (omega arith)), omega (arith, c.loop-number.invariant.1.size))
 
 pub line_latest-times-requires-clause-driver : goal.line_latest-times-requires-clause-driver
 line_latest-times-requires-clause-driver g c =
     let lines = c.args.self.lines.now in
-    let number = c.loop-number.number in
     let long = length-take-le c.args.upto lines c.requires.upto in
-    let here : get_or (take c.args.upto lines) number no_line ≡ line_at lines number = get_or-take c.args.upto lines number no_line (omega arith) in
-    subst (λ (l : Line). LawfulDriver (inputs lines) number l.driver) (sym here) (lawful_at lines number no_line (lawful_of lines c.args.self.lawful) (omega arith)).in_order
+    front_lawful lines c.args.upto c.loop-number.number (lawful_of lines c.args.self.lawful) c.requires.upto (omega arith)
 
 pub loop-number-preserved : goal.loop-number-preserved
 loop-number-preserved g c =
@@ -48,7 +44,7 @@ loop-number-preserved g c =
     let changed = c.loop-number.changed in
     let long = length-take-le c.args.upto lines c.requires.upto in
     let h : number < c.args.upto = omega arith in
-    let here : get_or (take c.args.upto lines) number no_line ≡ line_at lines number = get_or-take c.args.upto lines number no_line h in
+    let here = front_at lines c.args.upto number h in
     let so_far = c.loop-number.invariant.1 in (
       c.loop-number.invariant.0,
       elim c.if-not-has_stayed.branch [
