@@ -17,10 +17,8 @@ mod tests {
         let room = Room::new(heap)?;
         draft.clear();
         draft.add_input(b"old", 0)?;
-        match read_sheet(draft, &family, room, sheet) {
-            Ok(()) => Ok(None),
-            Err(fault) => Ok(Some((fault.number(), fault.place()))),
-        }
+        let refusal = read_sheet(draft, &family, room, sheet).err();
+        Ok(refusal.map(|fault| (fault.number(), fault.place())))
     }
 
     // Whether the sheet is refused with that number at that place, and leaves the draft empty.

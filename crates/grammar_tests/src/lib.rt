@@ -12,10 +12,7 @@ mod tests {
 
     // Why a text is refused, or None where it is a sheet.
     fn refusal(heap: Global, text: &[u8]) -> Result<Option<GrammarFault>, Fail> {
-        match Room::new(heap)?.read(text) {
-            Ok(_) => Ok(None),
-            Err(fault) => Ok(Some(fault)),
-        }
+        Ok(Room::new(heap)?.read(text).err())
     }
 
     fn sheet(rt: &impl Abort, heap: Global, text: &[u8]) -> Result<(), Fail> {
@@ -92,9 +89,8 @@ mod tests {
     fn lengths(rt: HostRuntime) -> Result<(), Fail> {
         // input forms of 12 bytes, and the four bytes that are left begin one more
         let mut text = Vec::with_capacity(rt.alloc(), MAX_SHEET + 1)?;
-        for i in 0..MAX_SHEET {
-            let b = b"(input a 0)\n"[i % 12];
-            text.push(b)?;
+        for b in b"(input a 0)\n".iter().cycle().take(MAX_SHEET) {
+            text.push(*b)?;
         }
         broken(&rt, rt.alloc(), &text, MAX_SHEET)?;
         text.push(b'u')?;

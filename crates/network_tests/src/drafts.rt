@@ -118,30 +118,19 @@ fn least_number(rt: HostRuntime) -> Result<(), Fail> {
     assert_eq!(rt; refusal(draft.add_input(b"A", MAX_DELAY + 1)), 1);
     assert_eq!(rt; refusal(draft.add_input(b"a", MAX_DELAY + 1)), 2);
     assert_eq!(rt; refusal(draft.add_input(b"b", MAX_DELAY + 1)), 5);
-    assert_eq!(rt;
-        refusal(draft.add_cell(&library, Some(b"a"), b"*", 1, &[])),
-        1
-    );
-    assert_eq!(rt;
-        refusal(draft.add_cell(&library, Some(b"A"), b"maj", 1, &[])),
-        1
-    );
-    assert_eq!(rt;
-        refusal(draft.add_cell(&library, Some(b"a"), b"maj", 1, &[])),
-        2
-    );
-    assert_eq!(rt;
-        refusal(draft.add_cell(&library, Some(b"b"), b"maj", MAX_DELAY + 1, &[1])),
-        4
-    );
-    assert_eq!(rt;
-        refusal(draft.add_cell(&library, Some(b"b"), b"maj", MAX_DELAY + 1, &[1, 1, 1])),
-        5
-    );
-    assert_eq!(rt;
-        refusal(draft.add_cell(&library, Some(b"b"), b"maj", 1, &[1, 1, 1])),
-        10
-    );
+    for (name, word, delay, pins, number) in [
+        (&b"a"[..], &b"*"[..], 1, &[][..], 1),
+        (&b"A"[..], &b"maj"[..], 1, &[][..], 1),
+        (&b"a"[..], &b"maj"[..], 1, &[][..], 2),
+        (&b"b"[..], &b"maj"[..], MAX_DELAY + 1, &[1][..], 4),
+        (&b"b"[..], &b"maj"[..], MAX_DELAY + 1, &[1, 1, 1][..], 5),
+        (&b"b"[..], &b"maj"[..], 1, &[1, 1, 1][..], 10),
+    ] {
+        assert_eq!(rt;
+            refusal(draft.add_cell(&library, Some(name), word, delay, pins)),
+            number
+        );
+    }
     Ok(())
 }
 
@@ -164,11 +153,10 @@ fn sealing(rt: HostRuntime) -> Result<(), Fail> {
     assert_eq!(rt; network.line_named(b"out"), Some(2));
     assert!(rt; network.name_of(1).is_none());
     assert!(rt; network.name_of(3).is_none());
-    match network.name_of(2) {
-        Some(name) => {
-            assert!(rt; name.as_bytes() == b"out".as_slice());
-            Ok(())
-        },
-        None => Err(Fail::new("line 2 has a name")),
-    }
+    assert!(rt;
+        network
+            .name_of(2)
+            .is_some_and(|name| name.as_bytes() == b"out".as_slice())
+    );
+    Ok(())
 }
