@@ -213,11 +213,6 @@ impl<'a> Reader<'a> {
         while self.place < self.sheet.len() {
             self.form()?;
         }
-        let Reader {
-            sheet: _,
-            place: _,
-            words,
-        } = self;
-        Ok(words)
+        Ok(self.words)
     }
 }
