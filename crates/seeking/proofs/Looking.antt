@@ -16,9 +16,14 @@ use Rattle.search.specs.Walk.{left_at}
 use Rattle.search.proofs.Settings.{whole_vector, vector_agrees, agrees_length}
 use Rattle.search.proofs.Searching.{few_looks}
 use Rattle.search.proofs.Turning.{one_more, still_looking, over_so_far, over_length, exact_end, turn_cut, turn_open}
+use Rattle.seeking.specs.declared.target.Target.{Target}
 use Rattle.seeking.specs.Seeking.{settle_time, latest_time, cuts, seek_search}
 use Rattle.seeking.specs.Outcomes.{time_found, LookedFor}
 use Rattle.seeking.proofs.Instance.{deciding}
+
+-- the test by which the search for a target cuts settings
+abbrev pub cut_for : {Time : Type 0} → Kind Time → Target → Bool → Time → Setting → Bool
+cut_for kind target value bound = cuts kind target.network.lines.now target.network.ties.now target.line value bound
 
 -- what a move to the next setting answered and left
 pub at_end : (ties after : Setting) (o : Option Setting) (r : Bool) → r ≡ is_some o → r ≡ false → after ≡ unwrap_or o ties → (o ≡ None) × (after ≡ ties)
