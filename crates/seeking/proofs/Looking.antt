@@ -16,7 +16,7 @@ use Rattle.search.specs.Walk.{left_at}
 use Rattle.search.proofs.Settings.{whole_vector, vector_agrees, agrees_length}
 use Rattle.search.proofs.Searching.{few_looks}
 use Rattle.search.proofs.Turning.{one_more, still_looking, over_so_far, over_length, exact_end, turn_cut, turn_open}
-use Rattle.seeking.specs.declared.target.Target.{Target}
+use Rattle.seeking.specs.declared.aim.Target.{Target}
 use Rattle.seeking.specs.Seeking.{settle_time, latest_time, cuts, seek_search}
 use Rattle.seeking.specs.Outcomes.{time_found, LookedFor}
 use Rattle.seeking.proofs.Instance.{deciding}

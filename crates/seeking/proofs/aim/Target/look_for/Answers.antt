@@ -6,8 +6,7 @@ use Rattle.search.specs.Turns.{next_setting}
 use Rattle.search.specs.Turns.Progress.{looking}
 use Rattle.search.proofs.Turning.{over_so_far, over_length}
 use Rattle.search.proofs.Walks.{open_at, open_within, open_nowhere, open_none, open_left, decided}
-use Rattle.seeking.specs.Seeking.{cuts}
-use Rattle.seeking.proofs.Looking.{at_end, gone_on, counts, less, again_cut, again_open, found_at_end, nothing_at_end}
+use Rattle.seeking.proofs.Looking.{cut_for, at_end, gone_on, counts, less, again_cut, again_open, found_at_end, nothing_at_end}
 use Rattle.seeking.proofs.aim.Target.look_for.Goals as goal
 
 pub looking-init : goal.looking-init
@@ -15,16 +14,16 @@ looking-init g c = ap looking (sym c.requires.start)
 
 pub overflow_add-looks : goal.overflow_add-looks
 overflow_add-looks g c =
-    let n = counts (cuts g.T.Time.kind c.args.self.network.lines.now c.args.self.network.ties.now c.args.self.line c.args.value c.args.bound) c.args.self.network.ties.now c.looking.setting c.looking.looks c.looking.invariant c.requires.few in
+    let n = counts (cut_for g.T.Time.kind c.args.self c.args.value c.args.bound) c.args.self.network.ties.now c.looking.setting c.looking.looks c.looking.invariant c.requires.few in
     omega (arith, n)
 
 pub latest_at-late-requires : goal.latest_at-late-requires
 latest_at-late-requires g c =
-    let long = over_length c.args.self.network.ties.now c.looking.setting (over_so_far (cuts g.T.Time.kind c.args.self.network.lines.now c.args.self.network.ties.now c.args.self.line c.args.value c.args.bound) c.args.self.network.ties.now c.looking.setting c.looking.looks c.looking.invariant) in
+    let long = over_length c.args.self.network.ties.now c.looking.setting (over_so_far (cut_for g.T.Time.kind c.args.self c.args.value c.args.bound) c.args.self.network.ties.now c.looking.setting c.looking.looks c.looking.invariant) in
     record { inputs = omega (arith, long); room = omega arith }
 
 pub pass-requires : goal.pass-requires
-pass-requires g c = over_so_far (cuts g.T.Time.kind c.args.self.network.lines.now c.args.self.network.ties.now c.args.self.line c.args.value c.args.bound) c.args.self.network.ties.now c.looking.setting c.looking.looks c.looking.invariant
+pass-requires g c = over_so_far (cut_for g.T.Time.kind c.args.self c.args.value c.args.bound) c.args.self.network.ties.now c.looking.setting c.looking.looks c.looking.invariant
 
 pub returns-in_default : goal.returns-in_default
 returns-in_default g c =
@@ -34,7 +33,7 @@ returns-in_default g c =
     (ap (cut kind c.args.bound) (sym c.latest_at-late.ensures) ∙ uncut) (open_none c.looking.setting (open_nowhere c.looking.setting (sym c.next_open.ensures.first ∙ c.in_default.is)))
 
 pub looking-smaller-then-reaches : goal.looking-smaller-then-reaches
-looking-smaller-then-reaches g c = less (cuts g.T.Time.kind c.args.self.network.lines.now c.args.self.network.ties.now c.args.self.line c.args.value c.args.bound) c.args.self.network.ties.now c.looking.setting c.looking.looks c.looking.invariant
+looking-smaller-then-reaches g c = less (cut_for g.T.Time.kind c.args.self c.args.value c.args.bound) c.args.self.network.ties.now c.looking.setting c.looking.looks c.looking.invariant
 
 pub looking-preserved-then-reaches : goal.looking-preserved-then-reaches
 looking-preserved-then-reaches g c =
@@ -44,7 +43,7 @@ looking-preserved-then-reaches g c =
     let found = sym c.next_open.ensures.first ∙ c.in-Some.is in
     let here = open_at c.looking.setting next found in
     let k = open_left c.looking.setting next here (open_within c.looking.setting next found) in
-    again_open (cuts g.T.Time.kind c.args.self.network.lines.now c.args.self.network.ties.now c.args.self.line c.args.value c.args.bound) c.args.self.network.ties.now c.looking.setting c.looking.looks c.looking.invariant (set c.looking.setting next (Some false)) k.0
+    again_open (cut_for g.T.Time.kind c.args.self c.args.value c.args.bound) c.args.self.network.ties.now c.looking.setting c.looking.looks c.looking.invariant (set c.looking.setting next (Some false)) k.0
     (ap (cut kind c.args.bound) (sym c.latest_at-late.ensures) ∙ uncut) k.1 (decided c.looking.setting next here false)
 
 pub returns-then-not-pass : goal.returns-then-not-pass
@@ -56,11 +55,11 @@ returns-then-not-pass g c =
     (ap (cut kind c.args.bound) (sym c.latest_at-late.ensures) ∙ is_cut) e.0 e.1
 
 pub looking-smaller : goal.looking-smaller
-looking-smaller g c = less (cuts g.T.Time.kind c.args.self.network.lines.now c.args.self.network.ties.now c.args.self.line c.args.value c.args.bound) c.args.self.network.ties.now c.looking.setting c.looking.looks c.looking.invariant
+looking-smaller g c = less (cut_for g.T.Time.kind c.args.self c.args.value c.args.bound) c.args.self.network.ties.now c.looking.setting c.looking.looks c.looking.invariant
 
 pub looking-preserved : goal.looking-preserved
 looking-preserved g c =
     let kind = g.T.Time.kind in
     let is_cut = not-false (cut kind c.args.bound c.latest_at-late.result) (sym c.reaches.ensures ∙ c.if-reaches.false) in
     let e = gone_on c.args.self.network.ties.now c.pass.new.setting (next_setting c.args.self.network.ties.now c.looking.setting) c.pass.result c.pass.ensures.answer c.if-not-pass.false c.pass.ensures.setting in
-    again_cut (cuts g.T.Time.kind c.args.self.network.lines.now c.args.self.network.ties.now c.args.self.line c.args.value c.args.bound) c.args.self.network.ties.now c.looking.setting c.looking.looks c.looking.invariant c.pass.new.setting (ap (cut kind c.args.bound) (sym c.latest_at-late.ensures) ∙ is_cut) e
+    again_cut (cut_for g.T.Time.kind c.args.self c.args.value c.args.bound) c.args.self.network.ties.now c.looking.setting c.looking.looks c.looking.invariant c.pass.new.setting (ap (cut kind c.args.bound) (sym c.latest_at-late.ensures) ∙ is_cut) e
