@@ -9,7 +9,7 @@ use Rattle.turns.specs.Asked.{Told}
 use Rattle.turns.specs.Plain.{bits, byte, bytes, written}
 use Rattle.report.specs.Answers.{LineForm, named_from, untied, IsWorst, Printed, nothing, one_more}
 use Rattle.report.specs.Plans.{Reaches, no_reply, a_reply}
-use Rattle.report.specs.Told.{told_form, told_forms}
+use Rattle.report.specs.Told.{told_forms}
 use Rattle.report.specs.Planned.{named_one}
 use Rattle.report.specs.Texts.{worst_text}
 
@@ -37,15 +37,10 @@ named_few number [] = omega arith
 named_few number (None ∷ names) = omega (arith, named_few (suc number) names)
 named_few number (Some n ∷ names) = omega (arith, named_few (suc number) names)
 
--- One reply more at the end.
-
-pub told_push : (inputs : ℕ) (names : List (List ℕ)) (replies : List (Told Ticks)) (name : List ℕ) (reply : Told Ticks) → length names ≡ length replies
-    → told_forms inputs (names ++ (name ∷ [])) (replies ++ (reply ∷ [])) ≡ told_forms inputs names replies ++ told_form inputs name reply
-told_push inputs [] [] name reply e = append-nil (told_form inputs name reply)
-told_push inputs [] (r ∷ replies) name reply e = absurd (omega arith)
-told_push inputs (n ∷ names) [] name reply e = absurd (omega arith)
-told_push inputs (n ∷ names) (r ∷ replies) name reply e =
-    ap (λ v. told_form inputs n r ++ v) (told_push inputs names replies name reply (omega arith)) ∙ sym (append_assoc (told_form inputs n r) (told_forms inputs names replies) (told_form inputs name reply))
+-- no reply is left
+pub told_none : (inputs : ℕ) (names : List (List ℕ)) → told_forms inputs names [] ≡ []
+told_none inputs [] = refl
+told_none inputs (name ∷ names) = refl
 
 -- a vector's bytes at the front of a buffer
 bits_bytes : (w : Vector) → bits (bytes w) ≡ w

@@ -1,5 +1,6 @@
 -- The answers as text; 32 is a space, 41 a closing bracket, 10 the line feed. Assumes nothing.
-use Rattle.std.specs.Prelude.{ℕ, Bool, cond, List, [], ◌∷◌, ◌++◌, map, codes, decimal}
+use Rattle.std.specs.Prelude.{ℕ, ◌*◌, Bool, cond, List, [], ◌∷◌, ◌++◌, map, codes, decimal}
+use Rattle.lines.specs.Limits.{max_lines}
 use Rattle.search.specs.Search.{Vector}
 
 -- (refused NUMBER PLACE), on a line of its own
@@ -20,3 +21,7 @@ worst_text name ticks vector = codes "(worst " ++ (name ++ (32 ∷ (decimal tick
 -- room for one printed form: 8 bytes of a name, 20 digits, 24 inputs, and what stands round them
 abbrev pub max_form : ℕ
 max_form = 64
+
+-- room for an answer: a form for each line that there can be
+abbrev pub max_answer : ℕ
+max_answer = max_form * max_lines

@@ -1,16 +1,14 @@
 // A sheet answered: from its bytes to the bytes that are printed.
-ghost use Rattle.std.specs.Prelude.{◌≡◌, ◌+◌, ◌*◌, ◌≤◌, IfOk, vec_len, vec_capacity};
+ghost use Rattle.std.specs.Prelude.{◌≡◌, ◌*◌, ◌≤◌, IfOk, vec_len, vec_capacity};
 ghost use Rattle.lines.specs.Limits.{max_lines};
 ghost use Rattle.network.specs.Drafts.{sketch, sealed};
 ghost use Rattle.network.specs.Sketches.{empty};
 ghost use Rattle.report.specs.Answers.{Answered};
-ghost use Rattle.report.specs.Texts.{max_form};
 ghost use Rattle.report.specs.Told.{FormsAdded};
 
 use crate::desk::Desk;
 use crate::plan::Plan;
-use crate::printing::push_replies;
-use crate::text::push_refused;
+use crate::text::Text;
 use drawing::read::read_sheet;
 use families::family::Family;
 use grammar::room::Room;
@@ -22,36 +20,31 @@ use runs::room::Room as Replies;
 use std::alloc::{AllocError, Global};
 use times::ticks::Ticks;
 
-// The most bytes of an answer.
-const MAX_ANSWER: usize = 64 * MAX_LINES;
-
 // The line forms of a network: the worst of each, by a study of it.
 fn push_forms(
-    out: &mut Vec<u8>,
+    text: &mut Text,
     network: Network,
-    plan: Plan,
+    mut plan: Plan,
     ceilings: Vec<Option<Ticks>>,
     room: Replies<Ticks>,
 )
-    requires enough { vec_len out.old + max_form * max_lines ≤ vec_capacity out.old }
+    requires blank { vec_len text.old.bytes ≡ 0 }
     requires unasked { vec_len plan.calls ≡ 0 }
     requires doubled { vec_len ceilings ≡ 2 * max_lines }
     requires replied { max_lines ≤ vec_capacity room.replies }
-    ensures { FormsAdded (sealed network) out.old.items out.new.items }
+    ensures { FormsAdded (sealed network) text.old.bytes.items text.new.bytes.items }
 {
-    let mut plan = plan;
     plan.ask_all(&network);
     let inputs = network.input_count();
     let Plan {
-        spare,
+        spare: _,
         calls,
         names,
     } = plan;
-    drop(spare);
-    match replay(network, ceilings, calls, room) {
-        Err(_) => unreachable(),
-        Ok(replies) => push_replies(out, &names, inputs, replies),
-    }
+    let Ok(replies) = replay(network, ceilings, calls, room) else {
+        unreachable()
+    };
+    text.push_replies(&names, inputs, replies);
 }
 
 impl<'a> Desk<'a> {
@@ -64,7 +57,7 @@ impl<'a> Desk<'a> {
         let plan = Plan::new(heap)?;
         let ceilings = vec![in heap; None; 2 * MAX_LINES]?;
         let replies = Replies::reserve(heap, MAX_LINES)?;
-        let text = Vec::with_capacity(heap, MAX_ANSWER)?;
+        let text = Text::new(heap)?;
         Ok(Desk {
             room,
             draft,
@@ -88,9 +81,9 @@ impl<'a> Desk<'a> {
             mut text,
         } = self;
         match read_sheet(&mut draft, family, room, sheet) {
-            Err(fault) => push_refused(&mut text, fault.number(), fault.place()),
+            Err(fault) => text.push_refused(fault.number(), fault.place()),
             Ok(()) => push_forms(&mut text, draft.seal(), plan, ceilings, replies),
         }
-        text
+        text.bytes
     }
 }

@@ -1,9 +1,9 @@
 // The memory for the answer to one sheet.
 ghost use Rattle.std.specs.Prelude.{◌≡◌, ◌*◌, ◌≤◌, vec_len, vec_capacity};
 ghost use Rattle.lines.specs.Limits.{max_lines};
-ghost use Rattle.report.specs.Texts.{max_form};
 
 use crate::plan::Plan;
+use crate::text::Text;
 use grammar::room::Room;
 use network::draft::Draft;
 use runs::room::Room as Replies;
@@ -18,10 +18,9 @@ pub struct Desk<'a> {
     pub(crate) plan: Plan,
     pub(crate) ceilings: Vec<Option<Ticks>>,
     pub(crate) replies: Replies<Ticks>,
-    pub(crate) text: Vec<u8>,
+    pub(crate) text: Text,
     ghost unasked: { vec_len plan.calls ≡ 0 },
     ghost doubled: { vec_len ceilings ≡ 2 * max_lines },
     ghost replied: { max_lines ≤ vec_capacity replies.replies },
-    ghost blank: { vec_len text ≡ 0 },
-    ghost enough: { max_form * max_lines ≤ vec_capacity text },
+    ghost blank: { vec_len text.bytes ≡ 0 },
 }

@@ -16,7 +16,8 @@ pub(crate) struct Buffers {
     ghost deep: { vec_len work ≡ max_lines },
 }
 
-// The calls so far, the name of the line that each asks for, and the buffers for those to come.
+// The calls so far, the name of the line that each asks for, and the buffers for those to come. The names lie in a list of
+// their own, since a run uses the calls up, and a name is no part of a call.
 #[derive(Drop)]
 pub(crate) struct Plan {
     pub(crate) spare: Vec<Buffers>,

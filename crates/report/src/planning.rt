@@ -31,10 +31,8 @@ impl Plan {
     pub(crate) fn new(heap: Global) -> Result<Plan, AllocError>
         ensures { IfOk result (λ plan. vec_len plan.calls ≡ 0) }
     {
-        let mut spare = Vec::with_capacity(heap, MAX_LINES)?;
-        while spare.len() < MAX_LINES {
-            spare.push_reserved(Buffers::new(heap)?);
-        }
+        let mut spare = Vec::new(heap);
+        spare.try_resize_with(MAX_LINES, || Buffers::new(heap))?;
         let calls = Vec::with_capacity(heap, MAX_LINES)?;
         let names = Vec::with_capacity(heap, MAX_LINES)?;
         Ok(Plan {
@@ -49,14 +47,11 @@ impl Plan {
         requires { 0 < vec_len self.old.spare }
         ensures { OneMore self.old self.new line (bytes_of name) }
     {
-        match self.spare.pop() {
-            None => unreachable(),
-            Some(buffers) => {
-                let Buffers { vector, work } = buffers;
-                self.calls.push_reserved(Call::Worst { line, vector, work });
-                self.names.push_reserved(name);
-            }
-        }
+        let Some(Buffers { vector, work }) = self.spare.pop() else {
+            unreachable()
+        };
+        self.calls.push_reserved(Call::Worst { line, vector, work });
+        self.names.push_reserved(name);
     }
 
     // The worst of the line, where it has a name.
@@ -64,9 +59,8 @@ impl Plan {
         requires { 0 < vec_len self.old.spare }
         ensures { Adds self.old self.new (named_one line (name_bytes name)) }
     {
-        match name {
-            None => {}
-            Some(name) => self.ask(line, name),
+        if let Some(name) = name {
+            self.ask(line, name);
         }
     }
 
