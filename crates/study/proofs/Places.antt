@@ -28,6 +28,10 @@ module _ {Time : Type 0} (study : Study Time) where
   pub ties_counted : length (plain_of study).ties ≡ inputs (plain_of study).lines
   ties_counted = ties_long ∙ study.counted
 
+-- the study as it is lent to the searches
+pub lent : {Time : Type 0} (study : Study Time) (lines : List Line) (ties : Setting) → lines ≡ (plain_of study).lines → ties ≡ (plain_of study).ties → ◌≡◌ {A = Plain} (record { lines = lines; ties = ties }) (plain_of study)
+lent study lines ties e f = λ i. record { lines = e i; ties = f i }
+
 pub take_set : (n : ℕ) (ties : Setting) (i : ℕ) (o : Option Bool) → i < n → take n (set ties i o) ≡ set (take n ties) i o
 take_set zero ties i o h = absurd (omega arith)
 take_set (suc n) [] i o h = refl

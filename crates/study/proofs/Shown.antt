@@ -34,23 +34,26 @@ vector_shown w setting s before after e =
 
 -- settle
 
-pub settle_shown : {Time : Type 0} (kind : Kind Time) (seen : List Line) (plain : Plain) → seen ≡ plain.lines → (vector : List ℕ) (given : Vector) → given ≡ bits vector → (values values' : List Bool) (times times' : List Time)
-    → Settles kind (tied_by plain.ties) seen (in_vector given) (as_settled kind values' times')
-    → values' ≡ map settled_value (settled kind (tied_by plain.ties) seen (in_vector given)) ++ drop (length seen) values
-    → times' ≡ map settled_time (settled kind (tied_by plain.ties) seen (in_vector given)) ++ drop (length seen) times
+pub settle_shown : {Time : Type 0} (kind : Kind Time) (seen plain : Plain) → seen ≡ plain → (vector : List ℕ) (given : Vector) → given ≡ bits vector → (values values' : List Bool) (times times' : List Time)
+    → Settles kind (tied_by seen.ties) seen.lines (in_vector given) (as_settled kind values' times')
+    → values' ≡ map settled_value (settled kind (tied_by seen.ties) seen.lines (in_vector given)) ++ drop (length seen.lines) values
+    → times' ≡ map settled_time (settled kind (tied_by seen.ties) seen.lines (in_vector given)) ++ drop (length seen.lines) times
     → SettleTold kind plain vector values values' times times'
 settle_shown kind seen plain e vector given f values values' times times' rules finals settles =
-    record {
-      rules = subst (λ v. Settles kind (tied_by plain.ties) plain.lines (in_vector v) (as_settled kind values' times')) f (subst (λ l. Settles kind (tied_by plain.ties) l (in_vector given) (as_settled kind values' times')) e rules);
-      values_are = subst (λ v. values' ≡ map settled_value (settled kind (tied_by plain.ties) plain.lines (in_vector v)) ++ drop (length plain.lines) values) f (subst (λ l. values' ≡ map settled_value (settled kind (tied_by plain.ties) l (in_vector given)) ++ drop (length l) values) e finals);
-      times_are = subst (λ v. times' ≡ map settled_time (settled kind (tied_by plain.ties) plain.lines (in_vector v)) ++ drop (length plain.lines) times) f (subst (λ l. times' ≡ map settled_time (settled kind (tied_by plain.ties) l (in_vector given)) ++ drop (length l) times) e settles);
-    }
+    subst (λ (p : Plain). SettleTold kind p vector values values' times times') e
+    (record {
+      rules = subst (λ v. Settles kind (tied_by seen.ties) seen.lines (in_vector v) (as_settled kind values' times')) f rules;
+      values_are = subst (λ v. values' ≡ map settled_value (settled kind (tied_by seen.ties) seen.lines (in_vector v)) ++ drop (length seen.lines) values) f finals;
+      times_are = subst (λ v. times' ≡ map settled_time (settled kind (tied_by seen.ties) seen.lines (in_vector v)) ++ drop (length seen.lines) times) f settles;
+    })
 
 -- seek
 
-pub looked_at : {Time : Type 0} (kind : Kind Time) (seen lines : List Line) → seen ≡ lines → (ties : Setting) (line : ℕ) (value : Bool) (bound : Time) (after : Setting) (found : Option Time) (looks : ℕ) → LookedFor kind seen ties line (seek_search kind seen ties line value bound) after found looks → LookedFor kind lines ties line (seek_search kind lines ties line value bound) after found looks
-looked_at kind seen lines e ties line value bound after found looks l =
-    subst (λ x. LookedFor kind x ties line (seek_search kind x ties line value bound) after found looks) e l
+pub looked_at : {Time : Type 0} (kind : Kind Time) (seen plain : Plain) → seen ≡ plain → (seen_line line : ℕ) → seen_line ≡ line → (value : Bool) (bound : Time) (after : Setting) (found : Option Time) (looks : ℕ)
+    → LookedFor kind seen.lines seen.ties seen_line (seek_search kind seen.lines seen.ties seen_line value bound) after found looks → LookedFor kind plain.lines plain.ties line (seek_search kind plain.lines plain.ties line value bound) after found looks
+looked_at kind seen plain e seen_line line f value bound after found looks l =
+    subst (λ (p : Plain). LookedFor kind p.lines p.ties line (seek_search kind p.lines p.ties line value bound) after found looks) e
+    (subst (λ k. LookedFor kind seen.lines seen.ties k (seek_search kind seen.lines seen.ties k value bound) after found looks) f l)
 
 module _ {Time : Type 0} (kind : Kind Time) (lines : List Line) (ties : Setting) (line : ℕ) (outcome : Outcome) (after : Setting) (found : Option Time) (looks : ℕ) (l : LookedFor kind lines ties line outcome after found looks) where
   pub found_of : (time : Time) → found ≡ Some time → (w : Vector) × (outcome.found ≡ Some w) × (settle_time kind lines ties line w ≡ time) × (after ≡ whole w)
@@ -73,9 +76,11 @@ told_looked work a b c = λ i. told_seek (Ok (record { found = a i; looks = b i 
 
 -- worst
 
-pub worst_is : {Time : Type 0} (kind : Kind Time) (seen lines : List Line) → seen ≡ lines → (ties : Setting) (line : ℕ) (best : Option (Reached Time)) → best ≡ worst_from kind.at_or_before (latest_of_both kind seen ties line) (undecided ties) ties None → worst_search kind lines ties line ≡ best
+pub worst_is : {Time : Type 0} (kind : Kind Time) (seen plain : Plain) → seen ≡ plain → (seen_line line : ℕ) → seen_line ≡ line → (best : Option (Reached Time))
+    → best ≡ worst_from kind.at_or_before (latest_of_both kind seen.lines seen.ties seen_line) (undecided plain.ties) plain.ties None → worst_search kind plain.lines plain.ties line ≡ best
 unfolding worst_vector
-worst_is kind seen lines e ties line best h = sym (h ∙ ap (λ l. worst_from kind.at_or_before (latest_of_both kind l ties line) (undecided ties) ties None) e)
+worst_is kind seen plain e seen_line line f best h =
+    sym (h ∙ ap (λ (p : Plain). worst_from kind.at_or_before (latest_of_both kind p.lines p.ties seen_line) (undecided plain.ties) plain.ties None) e ∙ ap (λ k. worst_from kind.at_or_before (latest_of_both kind plain.lines plain.ties k) (undecided plain.ties) plain.ties None) f)
 
 pub never_none : {Time : Type 0} (kind : Kind Time) → Laws kind → (lines : List Line) (ties : Setting) (line : ℕ) → Lawful lines → length ties ≡ inputs lines → line < length lines → worst_search kind lines ties line ≡ None → ⊥
 never_none kind laws lines ties line lawful n present e =

@@ -8,3 +8,4 @@ pub mod opening;
 pub mod questions;
 pub mod study;
 pub mod ties;
+pub mod views;

@@ -5,9 +5,7 @@ ghost use Rattle.study.specs.Standing.{Promises, Keeps};
 use crate::ceilings::is_covered;
 use crate::study::Study;
 use lines::limits::MAX_INPUTS;
-use seeking::line::latest_at;
-use seeking::seek::{Looked, look_for};
-use seeking::worst::worst_of;
+use seeking::seek::Looked;
 use settling::latest::Latest;
 use times::time::Time;
 use turns::answers::Greatest;
@@ -29,7 +27,7 @@ impl<T: Time> Study<T> {
         let mut given = [false; MAX_INPUTS];
         let given = &mut given[..self.inputs];
         read_bits(vector, given);
-        settling::settle::settle(&self.lines, &self.ties[..self.inputs], given, values, times);
+        self.tied().settle(given, values, times);
         Ok(())
     }
 
@@ -56,8 +54,7 @@ impl<T: Time> Study<T> {
         }
         let mut setting = self.ties;
         let setting = &mut setting[..self.inputs];
-        let ties = &self.ties[..self.inputs];
-        let looked = look_for(&self.lines, line, value == 1, bound, ties, setting, work);
+        let looked = self.target(line).look_for(value == 1, bound, setting, work);
         if looked.found.is_none() {
             self.ceilings[place] = Some(bound);
             return Ok(looked);
@@ -77,21 +74,17 @@ impl<T: Time> Study<T> {
         ensures { Promises T.kind self.now self.now (worst line vector.old work.old) (told_worst result vector.new work.new) }
     {
         self.check_worst(line, vector.len(), work.len())?;
-        let ties = &self.ties[..self.inputs];
+        let target = self.target(line);
         let mut setting = self.ties;
         let setting = &mut setting[..self.inputs];
         let mut at = [false; MAX_INPUTS];
         let at = &mut at[..self.inputs];
-        let greatest = worst_of(&self.lines, line, ties, setting, None, at, work);
-        match greatest {
-            None => unreachable(),
-            Some(time) => {
-                decide_all(at, setting);
-                let late = latest_at(&self.lines, ties, line, true, setting, work);
-                let value = late.is_some();
-                write_vector(setting, vector);
-                Ok(Greatest { time, value })
-            }
-        }
+        let Some(time) = target.worst_of(setting, None, at, work) else {
+            unreachable()
+        };
+        decide_all(at, setting);
+        let value = target.latest_at(true, setting, work).is_some();
+        write_vector(setting, vector);
+        Ok(Greatest { time, value })
     }
 }
