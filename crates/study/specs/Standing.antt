@@ -1,16 +1,22 @@
 -- A study and the turns that it has had since it was opened. Assumes nothing.
 --     plain_of, ceilings_of     its plain study; its ceilings, two places for each line
 --     OpenWrong                the numbers that fit opening it
+--     Tests fault wrong r       one test of a call
+--     DelayAt .. r              a line's present delay, or why it cannot be changed
 --     Stands .. past study      it stands as these turns left it
 --     Promises .. call reply    what a call promises, whatever turns the study has had
 --     Keeps before after r      what every call keeps
-use Rattle.std.specs.Prelude.{◌≡◌, ℕ, ◌+◌, ◌*◌, ◌<◌, ◌≤◌, Bool, true, false, List, ◌∷◌, length, take, is_ok, Some, None, vec_items, vec_len, Option, Result, slice_index_or}
+use Rattle.std.specs.Prelude.{◌≡◌, ℕ, ◌+◌, ◌*◌, ◌<◌, ◌≤◌, Bool, true, false, List, ◌∷◌, length, take, is_ok, Some, None, Ok, Err, vec_items, vec_len, Option, Result, slice_index_or}
+use Rattle.lines.specs.Limits.{max_delay}
+use Rattle.lines.specs.Lines.{line_at}
+use Rattle.network.specs.Least.{Least}
 use Rattle.times.specs.Kind.{Kind}
 use Rattle.seeking.specs.Seeking.{NoneLate}
 use Rattle.turns.specs.declared.fault.StudyFault.{StudyFault}
 use Rattle.turns.specs.Answers.{Past, Known, Answers}
 use Rattle.turns.specs.Asked.{Asked, Told}
 use Rattle.turns.specs.Plain.{Plain, is_one}
+use Rattle.turns.specs.Refusals.{number, ShortenWrong, LengthenWrong}
 use Rattle.turns.specs.Runs.{After, calls_in}
 use Rattle.study.specs.declared.study.Study.{Study}
 
@@ -32,6 +38,16 @@ ceiling study line value = slice_index_or (ceilings_of study) (place line value)
 abbrev pub covers : {Time : Type 0} → Kind Time → Time → Option Time → Bool
 covers kind bound None = false
 covers kind bound (Some at) = kind.at_or_before at bound
+
+-- refused so exactly where this is wrong
+abbrev pub Tests : StudyFault → Type 0 → Result (Unit {0}) StudyFault → Type 0
+Tests fault Wrong (Ok _) = Wrong → ⊥
+Tests fault Wrong (Err found) = (found ≡ fault) × Wrong
+
+-- a line's present delay, where a delay that fits is asked for it; or the smallest number that fits a shorten and a lengthen to it
+abbrev pub DelayAt : Plain → ℕ → ℕ → Result ℕ StudyFault → Type 0
+DelayAt plain line delay (Ok at) = (delay ≤ max_delay) × (line < length plain.lines) × (at ≡ (line_at plain.lines line).delay)
+DelayAt plain line delay (Err fault) = Least (ShortenWrong plain line delay) (number fault) × Least (LengthenWrong plain line delay) (number fault)
 
 -- opening: the buffer of ceilings has two places for each line
 pub data OpenWrong (lines places : ℕ) : ℕ → Type 0 where

@@ -1,6 +1,8 @@
 // Whether a study refuses a call, and if so with the smallest number that fits.
+ghost use Rattle.std.specs.Prelude.{◌<◌, ◌≤◌, ◌⊎◌, length};
+ghost use Rattle.turns.specs.declared.fault.StudyFault.TheVariants.{NoLine, NoBit, ShortBuffer};
 ghost use Rattle.turns.specs.Refusals.{Checked, SettleWrong, SeekWrong, WorstWrong, ShortenWrong, LengthenWrong, TieWrong, UntieWrong};
-ghost use Rattle.study.specs.Standing.{plain_of};
+ghost use Rattle.study.specs.Standing.{plain_of, Tests, DelayAt};
 
 use crate::study::Study;
 use lines::limits::MAX_DELAY;
@@ -8,7 +10,40 @@ use times::time::Time;
 use turns::bits::{agrees, all_bits};
 use turns::fault::StudyFault;
 
+// Whether a value is refused, as neither 0 nor 1.
+fn check_bit(value: u8) -> Result<(), StudyFault>
+    ensures { Tests NoBit (1 < value) result }
+{
+    if value > 1 {
+        return Err(StudyFault::NoBit);
+    }
+    Ok(())
+}
+
 impl<T: Time> Study<T> {
+    // Whether a line is refused, as not present.
+    fn check_line(&self, line: usize) -> Result<(), StudyFault>
+        ensures { Tests NoLine (length (plain_of self.now).lines ≤ line) result }
+    {
+        if line >= self.lines.len() {
+            return Err(StudyFault::NoLine);
+        }
+        Ok(())
+    }
+
+    // Whether the buffers of a search are refused, by how many places its vector and its work have.
+    fn check_room(&self, room: usize, work: usize) -> Result<(), StudyFault>
+        ensures { Tests ShortBuffer ((room < length (plain_of self.now).ties) ⊎ (work < length (plain_of self.now).lines)) result }
+    {
+        if room < self.inputs {
+            return Err(StudyFault::ShortBuffer);
+        }
+        if work < self.lines.len() {
+            return Err(StudyFault::ShortBuffer);
+        }
+        Ok(())
+    }
+
     // Whether a settle is refused, by its vector and how many places its two buffers have.
     pub(crate) fn check_settle(
         &self,
@@ -46,19 +81,9 @@ impl<T: Time> Study<T> {
     ) -> Result<(), StudyFault>
         ensures { Checked (SeekWrong (plain_of self.now) line value room work) result }
     {
-        if line >= self.lines.len() {
-            return Err(StudyFault::NoLine);
-        }
-        if value > 1 {
-            return Err(StudyFault::NoBit);
-        }
-        if room < self.inputs {
-            return Err(StudyFault::ShortBuffer);
-        }
-        if work < self.lines.len() {
-            return Err(StudyFault::ShortBuffer);
-        }
-        Ok(())
+        self.check_line(line)?;
+        check_bit(value)?;
+        self.check_room(room, work)
     }
 
     // Whether a worst is refused, by its line, and how many places its vector and its work have.
@@ -70,21 +95,13 @@ impl<T: Time> Study<T> {
     ) -> Result<(), StudyFault>
         ensures { Checked (WorstWrong (plain_of self.now) line room work) result }
     {
-        if line >= self.lines.len() {
-            return Err(StudyFault::NoLine);
-        }
-        if room < self.inputs {
-            return Err(StudyFault::ShortBuffer);
-        }
-        if work < self.lines.len() {
-            return Err(StudyFault::ShortBuffer);
-        }
-        Ok(())
+        self.check_line(line)?;
+        self.check_room(room, work)
     }
 
-    // Whether a shorten is refused, by its line and delay.
-    pub(crate) fn check_shorten(&self, line: usize, delay: u32) -> Result<(), StudyFault>
-        ensures { Checked (ShortenWrong (plain_of self.now) line delay) result }
+    // A line's present delay, which is to be changed; or why neither a shorten nor a lengthen to that delay can be.
+    fn delay_at(&self, line: usize, delay: u32) -> Result<u32, StudyFault>
+        ensures { DelayAt (plain_of self.now) line delay result }
     {
         if delay > MAX_DELAY {
             return Err(StudyFault::DelayAbove);
@@ -92,7 +109,14 @@ impl<T: Time> Study<T> {
         if line >= self.lines.len() {
             return Err(StudyFault::NoLine);
         }
-        if self.lines[line].delay < delay {
+        Ok(self.lines[line].delay)
+    }
+
+    // Whether a shorten is refused, by its line and delay.
+    pub(crate) fn check_shorten(&self, line: usize, delay: u32) -> Result<(), StudyFault>
+        ensures { Checked (ShortenWrong (plain_of self.now) line delay) result }
+    {
+        if self.delay_at(line, delay)? < delay {
             return Err(StudyFault::NoSuchChange);
         }
         Ok(())
@@ -102,13 +126,7 @@ impl<T: Time> Study<T> {
     pub(crate) fn check_lengthen(&self, line: usize, delay: u32) -> Result<(), StudyFault>
         ensures { Checked (LengthenWrong (plain_of self.now) line delay) result }
     {
-        if delay > MAX_DELAY {
-            return Err(StudyFault::DelayAbove);
-        }
-        if line >= self.lines.len() {
-            return Err(StudyFault::NoLine);
-        }
-        if self.lines[line].delay >= delay {
+        if self.delay_at(line, delay)? >= delay {
             return Err(StudyFault::NoSuchChange);
         }
         Ok(())
@@ -118,17 +136,12 @@ impl<T: Time> Study<T> {
     pub(crate) fn check_tie(&self, line: usize, value: u8) -> Result<(), StudyFault>
         ensures { Checked (TieWrong (plain_of self.now) line value) result }
     {
-        if line >= self.lines.len() {
-            return Err(StudyFault::NoLine);
-        }
-        if value > 1 {
-            return Err(StudyFault::NoBit);
-        }
+        self.check_line(line)?;
+        check_bit(value)?;
         if line >= self.inputs {
             return Err(StudyFault::TieAgainst);
         }
-        let tie = self.ties[line];
-        if tie.is_some() {
+        if self.ties[line].is_some() {
             return Err(StudyFault::TieAgainst);
         }
         Ok(())
@@ -138,14 +151,11 @@ impl<T: Time> Study<T> {
     pub(crate) fn check_untie(&self, line: usize) -> Result<(), StudyFault>
         ensures { Checked (UntieWrong (plain_of self.now) line) result }
     {
-        if line >= self.lines.len() {
-            return Err(StudyFault::NoLine);
-        }
+        self.check_line(line)?;
         if line >= self.inputs {
             return Err(StudyFault::TieAgainst);
         }
-        let tie = self.ties[line];
-        if tie.is_none() {
+        if self.ties[line].is_none() {
             return Err(StudyFault::TieAgainst);
         }
         Ok(())

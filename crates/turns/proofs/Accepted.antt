@@ -9,10 +9,10 @@ use Rattle.turns.specs.Plain.{Plain}
 use Rattle.turns.specs.Refusals.{SettleWrong, SeekWrong, WorstWrong, ShortenWrong, LengthenWrong, TieWrong, UntieWrong}
 
 -- a number is below another, or that is refuted
-below_or : (a b : ℕ) → (b ≤ a → ⊥) → a < b
+pub below_or : (a b : ℕ) → (b ≤ a → ⊥) → a < b
 below_or a b refute = ⊎_elim (λ h. h) (λ h. absurd (refute h)) (cases_lt a b)
 
-within_or : (a b : ℕ) → (b < a → ⊥) → a ≤ b
+pub within_or : (a b : ℕ) → (b < a → ⊥) → a ≤ b
 within_or a b refute = ⊎_elim (λ h. absurd (refute h)) (λ h. h) (cases_lt b a)
 
 module _ (plain : Plain) (line delay : ℕ) where
