@@ -1,4 +1,5 @@
 pub mod Settings
+pub mod Mapped
 pub mod Searching
 pub mod Worsts
 pub mod Turning

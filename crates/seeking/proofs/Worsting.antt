@@ -1,29 +1,9 @@
 -- The steps of the search for the worst. Assumes nothing.
-use Rattle.std.proofs.Common.{◌≡◌, ℕ, zero, suc, ◌+◌, ◌<◌, Bool, true, false, List, [], ◌∷◌, ◌++◌, length, get_or, drop, set, Some, None, Option, unwrap_or, sym, refl, ap, ◌∙◌, append-nil, arith, drop_of_length-le}
+use Rattle.std.proofs.Common.{◌≡◌, ℕ, zero, suc, Bool, true, false, Some, None, Option, sym, refl, ap, ◌∙◌, arith}
 use Rattle.std.proofs.lemmas.Bool.{cond-true, cond-false}
-use Rattle.settling.proofs.Buffers.{written, written_more, written_all}
 use Rattle.search.specs.Search.{Vector, Setting, undecided, decide, vector}
 use Rattle.search.specs.Worst.{best_of, best_time, promising, worst_from}
-use Rattle.search.proofs.Settings.{agrees_length, vector_agrees}
 use Rattle.search.proofs.Walks.{fewer}
-
--- the values kept
-value_at : (s : Setting) (i : ℕ) (d : Bool) → i < length s → unwrap_or (get_or s i None) false ≡ get_or (vector s) i d
-value_at [] i d h = absurd (omega arith)
-value_at (Some x ∷ s) zero d h = refl
-value_at (None ∷ s) zero d h = refl
-value_at (Some x ∷ s) (suc i) d h = value_at s i d (omega arith)
-value_at (None ∷ s) (suc i) d h = value_at s i d (omega arith)
-
-pub keep_one : (s : Setting) (old now : List Bool) (i : ℕ) (x : Bool) → length old ≡ length s → i < length s → now ≡ written i (vector s) old → x ≡ unwrap_or (get_or s i None) false → set now i x ≡ written (i + 1) (vector s) old
-keep_one s old now i x same h e is =
-    let long : length (vector s) ≡ length s = agrees_length (vector s) s (vector_agrees s) in
-    ap (λ l. set l i x) e ∙ written_more i (vector s) old x (omega arith) (omega arith) (is ∙ value_at s i x h)
-
-pub keep_all : (s : Setting) (old now : List Bool) (i : ℕ) → length old ≡ length s → i ≡ length s → now ≡ written i (vector s) old → now ≡ vector s
-keep_all s old now i same h e =
-    let none : drop (length s) old ≡ [] = drop_of_length-le old {i = length s} (omega arith) in
-    e ∙ ap (λ n. written n (vector s) old) h ∙ written_all (length s) (vector s) old (agrees_length (vector s) s (vector_agrees s)) ∙ ap (λ x. vector s ++ x) none ∙ append-nil (vector s)
 
 module _ {Time : Type 0} (order : Time → Time → Bool) (latest : Setting → Option Time) where
   time_back : (best : Option Time) (at : Vector) → best_time (best_of best at) ≡ best

@@ -6,6 +6,7 @@ ghost use Rattle.search.specs.Worst.{best_of, promising, worst_from};
 ghost use Rattle.seeking.specs.Seeking.{latest_of_both};
 
 use crate::aim::Target;
+use search::places::map_into;
 use search::walk::next_open;
 use settling::latest::Latest;
 use times::time::Time;
@@ -22,9 +23,7 @@ fn keep(setting: &[Option<bool>], at: &mut [bool])
     requires { length at.old ≡ length setting.now }
     ensures { at.new ≡ vector setting.now }
 {
-    for (i, input) in setting.iter().enumerate() {
-        at[i] = input.unwrap_or(false);
-    }
+    map_into(setting, |input| input.unwrap_or(false), at);
 }
 
 impl Target<'_> {

@@ -1,9 +1,7 @@
-use Rattle.std.proofs.Common.{arith}
-use Rattle.seeking.proofs.Worsting.{keep_one, keep_all}
+use Rattle.std.proofs.Common.{false, unwrap_or, ◌∙◌, rules}
+use Rattle.search.proofs.Mapped.{filled, map_vector}
 use Rattle.seeking.proofs.worst.keep.Goals as goal
 
-pub loop-i-preserved : goal.loop-i-preserved
-loop-i-preserved c = keep_one c.args.setting.now c.args.at.now c.loop-i.at c.loop-i.i c.unwrap_or.result c.requires (omega arith) c.loop-i.invariant c.unwrap_or.ensures
-
 pub returns : goal.returns
-returns c = keep_all c.args.setting.now c.args.at.now c.loop-i.at c.loop-i.i c.requires (omega arith) c.loop-i.invariant
+returns c =
+    c.map_into.ensures (λ o. unwrap_or o false) (λ x y made. search rules) ∙ filled c.args.setting.now _ c.args.at.now c.requires ∙ map_vector c.args.setting.now

@@ -1,9 +1,7 @@
-use Rattle.std.proofs.Common.{arith}
-use Rattle.turns.proofs.Bytes.{one_decided, all_decided}
+use Rattle.std.proofs.Common.{Some, ◌∙◌, rules}
+use Rattle.search.proofs.Mapped.{filled, map_whole}
 use Rattle.turns.proofs.bits.decide_all.Goals as goal
 
-pub loop-i-preserved : goal.loop-i-preserved
-loop-i-preserved c = one_decided c.args.values.now c.args.setting.now c.loop-i.setting c.loop-i.i c.requires (omega arith) c.loop-i.invariant
-
 pub returns : goal.returns
-returns c = all_decided c.args.values.now c.args.setting.now c.loop-i.setting c.loop-i.i c.requires (omega arith) c.loop-i.invariant
+returns c =
+    c.map_into.ensures (λ x. Some x) (λ x y made. search rules) ∙ filled c.args.values.now _ c.args.setting.now c.requires ∙ map_whole c.args.values.now
