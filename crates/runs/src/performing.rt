@@ -1,4 +1,5 @@
-// One call made with its own buffers.
+// One call made with its own buffers. The calls that have buffers stand in functions of their own, which differ in the call,
+// in what it is asked and in the buffers that it takes.
 ghost use Rattle.std.specs.Prelude.{◌≡◌, false};
 ghost use Rattle.study.specs.Standing.{Promises, Unchanged};
 ghost use Rattle.turns.specs.Answers.{accepted};

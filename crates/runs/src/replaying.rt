@@ -20,8 +20,7 @@ fn replies_of<T: Time>(study: &mut Study<T>, calls: Vec<Call<T>>, room: Room<T>)
     requires enough { vec_len calls ≤ vec_capacity room.replies }
     ensures { Run T.kind (plain_of study.old) [] (map asked calls.items) (map told result.items) }
 {
-    let Room { replies } = room;
-    let mut replies = replies;
+    let Room { mut replies } = room;
     for call in calls {
         replies.push_reserved(perform(study, call));
     }

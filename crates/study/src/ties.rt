@@ -1,4 +1,4 @@
-// The calls that change a tie.
+// The calls that change a tie: each is its check and what it writes, as those that change a delay are.
 ghost use Rattle.turns.specs.Asked.{tie, untie, told_change};
 ghost use Rattle.study.specs.Standing.{Promises, Keeps};
 
