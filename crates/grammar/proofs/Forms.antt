@@ -1,5 +1,5 @@
 -- What the readers of a form and of the sheet come to. Assumes nothing.
-use Rattle.std.proofs.Common.{◌≡◌, ℕ, suc, ◌+◌, ◌-◌, ◌<◌, ◌≤◌, Bool, true, false, cond, eqb, List, [], ◌∷◌, ◌++◌, length, Some, codes, sym, refl, ap, ◌∙◌, subst, append_assoc, append-nil, arith, length-append, length-drop, eqb-true}
+use Rattle.std.proofs.Common.{◌≡◌, ℕ, ◌+◌, ◌-◌, ◌<◌, ◌≤◌, Bool, true, false, cond, eqb, List, [], ◌∷◌, ◌++◌, length, get_or, Some, codes, sym, refl, ap, ◌∙◌, subst, append_assoc, append-nil, arith, length-append, length-drop, eqb-true}
 use Rattle.sheets.specs.Sheet.{max_sheet, max_depth, Name, Delay, Form, LawfulForm, LawfulForms, form_depth, sheet_depth, form_text, sheet_text, cell_text, Broken, TooDeep}
 use Rattle.sheets.specs.Verdicts.{Judged}
 use Rattle.sheets.specs.Words.{SheetWord, closes, cell_words, form_words, sheet_words}
@@ -8,50 +8,68 @@ use Rattle.sheets.proofs.Complete.{goes, taken, left, forms_run}
 use Rattle.sheets.proofs.Verdict.{broken_verdict, deep_verdict}
 use Rattle.grammar.specs.declared.fault.GrammarFault.{GrammarFault}
 use Rattle.grammar.specs.declared.fault.GrammarFault.TheVariants
+use Rattle.grammar.specs.declared.word.Opening.{Opening}
+use Rattle.grammar.specs.declared.word.Opening.TheVariants as TheOpenings
+use Rattle.grammar.specs.Views.{opened}
 use Rattle.grammar.specs.Faults.{verdict}
-use Rattle.grammar.specs.Readings.{At, rest, Took, SecondIs, out, Ends, Stops, WordRead, CellRead, EndRead, input_items, line_items, end_items, NoForms, FormRead, FormsRead, AllRead}
+use Rattle.grammar.specs.Readings.{At, rest, Took, SecondIs, out, Ends, Stops, WordRead, CellRead, StartRead, EndRead, input_items, line_items, end_items, NoForms, FormRead, FormsRead, AllRead}
 use Rattle.grammar.proofs.Fronts.{broken_end}
-use Rattle.grammar.proofs.Roads.{took_then, took_as, took_none, ends_as}
+use Rattle.grammar.proofs.Roads.{took_then, took_as, took_none, ends_as, byte_on, literal_on, flat}
 
 -- A form, from what its parts read.
 
-pub input_read : (a b c d e f g : At) → Took (codes "(") (SheetWord.input_open (codes "(") a.place ∷ []) a b → Took (codes "input ") [] b c → WordRead Name Item.name SheetWord.name c d → Took (32 ∷ []) [] d e → WordRead Delay Item.delay SheetWord.delay e f → EndRead f g → FormRead a g
-input_read a b c d e f g opened word name space digits ended =
-    let n = name.bytes in
-    let v = digits.bytes in
-    let form = Form.input n v in
-    let shape : codes "(" ++ (codes "input " ++ (n ++ ((32 ∷ []) ++ (v ++ (41 ∷ (10 ∷ [])))))) ≡ form_text form ++ (10 ∷ []) = simp append_assoc in
-    let at_c : c.place ≡ a.place + 7 = omega (arith, opened.on, word.on) in
-    let at_e : e.place ≡ a.place + 7 + length n + 1 = omega (arith, at_c, name.took.on, space.on) in
-    let inner : length (n ++ ((32 ∷ []) ++ (v ++ (41 ∷ (10 ∷ []))))) ≡ length n + (1 + (length v + 2)) = length-append n ((32 ∷ []) ++ (v ++ (41 ∷ (10 ∷ [])))) ∙ ap (λ k. length n + k) (ap suc (length-append v (41 ∷ (10 ∷ []))) ∙ omega arith) in
-    let whole : length (form_text form ++ (10 ∷ [])) ≡ length (form_text form) + 1 = length-append (form_text form) (10 ∷ []) in
-    let last : f.place ≡ a.place + length (form_text form) - 1 = omega (arith, at_e, digits.took.on, inner, whole, ap length shape) in
+pub start_read : (opens : Opening) (text : List ℕ) (a b c d e : At) → Took (codes "(") (opened opens (codes "(") a.place ∷ []) a b → Took text [] b c → WordRead Name Item.name SheetWord.name c d → Took (32 ∷ []) [] d e → StartRead opens text a e
+start_read opens text a b c d e bracket word name space =
+    let at_c : c.place ≡ a.place + 1 + length text = omega (arith, bracket.on, word.on) in
     record {
-      form = form;
-      lawful = (name.lawful, digits.lawful);
-      shallow = omega arith;
-      took = took_as shape (λ i. SheetWord.input_open (codes "(") a.place ∷ SheetWord.name n (at_c i) ∷ SheetWord.delay v (at_e i) ∷ closes (last i) ∷ []) (took_then opened (took_then word (took_then name.took (took_then space (took_then digits.took ended)))));
+      name = name.bytes;
+      lawful = name.lawful;
+      took = took_as refl (λ i. opened opens (codes "(") a.place ∷ SheetWord.name name.bytes (at_c i) ∷ []) (took_then bracket (took_then word (took_then name.took space)));
+      moves = λ s ok.
+          byte_on 40 (bytes_then text (Item.name ∷ Item.byte 32 ∷ s)) _ a b (omega (arith, flat text (Item.name ∷ Item.byte 32 ∷ s))) bracket
+          ∙ literal_on text (Item.name ∷ Item.byte 32 ∷ s) [] b c ok word
+          ∙ name.moves (Item.byte 32 ∷ s) ok
+          ∙ byte_on 32 s [] d e ok space;
     }
 
-pub line_read : (a b c d e f g : At) → Took (codes "(") (SheetWord.line_open (codes "(") a.place ∷ []) a b → Took (codes "line ") [] b c → WordRead Name Item.name SheetWord.name c d → Took (32 ∷ []) [] d e → CellRead max_depth e f → EndRead f g → FormRead a g
-line_read a b c d e f g opened word name space cell ended =
-    let n = name.bytes in
+-- the closing bracket is the last byte of a form
+closed : (form : Form) {xs : List ℕ} {ws : List SheetWord} (a c d : At) → xs ≡ form_text form ++ (10 ∷ []) → Took xs ws a d → EndRead c d → c.place ≡ a.place + length (form_text form) - 1
+closed form a c d shape took ended = omega (arith, took.on, ended.on, ap length shape, length-append (form_text form) (10 ∷ []))
+
+pub input_read : (a b c d : At) → StartRead TheOpenings.Input (codes "input ") a b → WordRead Delay Item.delay SheetWord.delay b c → EndRead c d → FormRead a d
+input_read a b c d start digits ended =
+    let n = start.name in
+    let v = digits.bytes in
+    let form = Form.input n v in
+    let shape : (40 ∷ (codes "input " ++ (n ++ (32 ∷ [])))) ++ (v ++ (41 ∷ (10 ∷ []))) ≡ form_text form ++ (10 ∷ []) = simp append_assoc in
+    let took = took_then start.took (took_then digits.took ended) in
+    let at_n : a.place + 1 + length (codes "input ") ≡ a.place + 7 = omega arith in
+    let at_b : b.place ≡ a.place + 7 + length n + 1 = omega (arith, start.took.on, length-append n (32 ∷ [])) in
+    let last = closed form a c d shape took ended in
+    record {
+      form = form;
+      lawful = (start.lawful, digits.lawful);
+      shallow = omega arith;
+      took = took_as shape (λ i. SheetWord.input_open (codes "(") a.place ∷ SheetWord.name n (at_n i) ∷ SheetWord.delay v (at_b i) ∷ closes (last i) ∷ []) took;
+    }
+
+pub line_read : (a b c d : At) → StartRead TheOpenings.Line (codes "line ") a b → CellRead max_depth b c → EndRead c d → FormRead a d
+line_read a b c d start cell ended =
+    let n = start.name in
     let w = cell.word in
     let v = cell.digits in
     let ps = cell.pins in
     let form = Form.line n w v ps in
-    let text = cell_text w v ps in
-    let shape : codes "(" ++ (codes "line " ++ (n ++ ((32 ∷ []) ++ (text ++ (41 ∷ (10 ∷ [])))))) ≡ form_text form ++ (10 ∷ []) = simp append_assoc in
-    let at_c : c.place ≡ a.place + 6 = omega (arith, opened.on, word.on) in
-    let at_e : e.place ≡ a.place + 6 + length n + 1 = omega (arith, at_c, name.took.on, space.on) in
-    let inner : length (n ++ ((32 ∷ []) ++ (text ++ (41 ∷ (10 ∷ []))))) ≡ length n + (1 + (length text + 2)) = length-append n ((32 ∷ []) ++ (text ++ (41 ∷ (10 ∷ [])))) ∙ ap (λ k. length n + k) (ap suc (length-append text (41 ∷ (10 ∷ []))) ∙ omega arith) in
-    let whole : length (form_text form ++ (10 ∷ [])) ≡ length (form_text form) + 1 = length-append (form_text form) (10 ∷ []) in
-    let last : f.place ≡ a.place + length (form_text form) - 1 = omega (arith, at_e, cell.took.on, inner, whole, ap length shape) in
+    let shape : (40 ∷ (codes "line " ++ (n ++ (32 ∷ [])))) ++ (cell_text w v ps ++ (41 ∷ (10 ∷ []))) ≡ form_text form ++ (10 ∷ []) = simp append_assoc in
+    let took = took_then start.took (took_then cell.took ended) in
+    let at_n : a.place + 1 + length (codes "line ") ≡ a.place + 6 = omega arith in
+    let at_b : b.place ≡ a.place + 6 + length n + 1 = omega (arith, start.took.on, length-append n (32 ∷ [])) in
+    let last = closed form a c d shape took ended in
     record {
       form = form;
-      lawful = (name.lawful, cell.lawful);
+      lawful = (start.lawful, cell.lawful);
       shallow = cell.shallow;
-      took = took_as shape (λ i. SheetWord.line_open (codes "(") a.place ∷ SheetWord.name n (at_c i) ∷ (cell_words (at_e i) w v ps ++ (closes (last i) ∷ []))) (took_then opened (took_then word (took_then name.took (took_then space (took_then cell.took ended)))));
+      took = took_as shape (λ i. SheetWord.line_open (codes "(") a.place ∷ SheetWord.name n (at_n i) ∷ (cell_words (at_b i) w v ps ++ (closes (last i) ∷ []))) took;
     }
 
 -- A form is a line form or an input form, by its second byte.
@@ -90,6 +108,16 @@ as_input : (a : At) (r : List ℕ) → rest a ≡ r → 0 < length r → SecondI
 as_input a [] e l h = absurd (omega arith)
 as_input a (c ∷ xs) e l h =
     ap (outcome 9 (Some start)) e ∙ by_open c xs _ (eqb c 40) refl (omega arith) (input_second xs (λ ys r. h c ys (e ∙ ap (λ v. c ∷ v) r))) ∙ sym (ap (outcome 9 (Some (input_items start))) e)
+
+pub second_there : (b : ℕ) (a : At) (r : List ℕ) → r ≡ rest a → 2 ≤ length r → get_or r 1 0 ≡ b → SecondIs b a true
+second_there b a [] e l h = absurd (omega arith)
+second_there b a (c ∷ []) e l h = absurd (omega arith)
+second_there b a (c ∷ (d ∷ xs)) e l h = (c, (xs, sym e ∙ ap (λ v. c ∷ (v ∷ xs)) h))
+
+pub second_other : (b : ℕ) (a : At) (r : List ℕ) → r ≡ rest a → (2 ≤ length r → get_or r 1 0 ≡ b → ⊥) → SecondIs b a false
+second_other b a r e n c xs h =
+    let text : r ≡ c ∷ (b ∷ xs) = e ∙ h in
+    n (omega (arith, ap length text)) (ap (λ v. get_or v 1 0) text)
 
 pub line_stops : (a : At) (f : GrammarFault) → SecondIs 108 a true → Stops line_items most_open a f → NoForms a f
 line_stops a f h n = ends_as a.text f _ _ (as_line a h) (n start (omega arith))

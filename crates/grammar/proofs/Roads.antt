@@ -176,7 +176,7 @@ bytes_then_append : (xs ys : List ℕ) (s : List Item) → bytes_then (xs ++ ys)
 bytes_then_append [] ys s = refl
 bytes_then_append (x ∷ xs) ys s = ap (λ v. Item.byte x ∷ v) (bytes_then_append xs ys s)
 
-flat : (cs : List ℕ) (s : List Item) → open_brackets (bytes_then cs s) ≡ open_brackets s
+pub flat : (cs : List ℕ) (s : List Item) → open_brackets (bytes_then cs s) ≡ open_brackets s
 flat [] s = refl
 flat (c ∷ cs) s = flat cs s
 

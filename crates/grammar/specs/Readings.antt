@@ -9,6 +9,8 @@ use Rattle.sheets.specs.Words.{SheetWord, closes, pins_words, cell_words, form_w
 use Rattle.sheets.specs.Recogniser.{Item, Outcome, open_brackets, outcome, most_open, bytes_then}
 use Rattle.grammar.specs.declared.fault.GrammarFault.{GrammarFault}
 use Rattle.grammar.specs.declared.fault.GrammarFault.TheVariants.{TooLong, Broken, TooDeep}
+use Rattle.grammar.specs.declared.word.Opening.{Opening}
+use Rattle.grammar.specs.Views.{opened}
 
 -- the text, a place in it, and the words that were read before it
 pub record At : Type 0 where
@@ -97,18 +99,28 @@ pub record PinsRead (room most : ℕ) (a b : At) : Type 0 where
   pub took : Took (pins_text pins ++ (41 ∷ [])) (pins_words a.place pins ++ (closes (a.place + length (pins_text pins)) ∷ [])) a b
 
 -- what is asked of a form on its line, and before what s asks
+abbrev pub start_items : List ℕ → List Item → List Item
+start_items word s = Item.byte 40 ∷ bytes_then word (Item.name ∷ Item.byte 32 ∷ s)
+
 abbrev pub end_items : List Item → List Item
 end_items s = Item.close ∷ Item.byte 10 ∷ s
 
 abbrev pub input_items : List Item → List Item
-input_items s = Item.byte 40 ∷ bytes_then (codes "input ") (Item.name ∷ Item.byte 32 ∷ Item.delay ∷ end_items s)
+input_items s = start_items (codes "input ") (Item.delay ∷ end_items s)
 
 abbrev pub line_items : List Item → List Item
-line_items s = Item.byte 40 ∷ bytes_then (codes "line ") (Item.name ∷ Item.byte 32 ∷ Item.cell ∷ end_items s)
+line_items s = start_items (codes "line ") (Item.cell ∷ end_items s)
 
 -- the reading of forms from there on ends at the fault
 abbrev pub NoForms : At → GrammarFault → Type 0
 NoForms a f = Ends a.text f (out (Item.forms ∷ []) a)
+
+-- the opening bracket of a form, its word, its name, and the space after it
+pub record StartRead (opens : Opening) (word : List ℕ) (a b : At) : Type 0 where
+  pub name : List ℕ
+  pub lawful : Name name
+  pub took : Took (40 ∷ (word ++ (name ++ (32 ∷ [])))) (opened opens (codes "(") a.place ∷ SheetWord.name name (a.place + 1 + length word) ∷ []) a b
+  pub moves : (s : List Item) → open_brackets s ≤ most_open → out (start_items word s) a ≡ out s b
 
 -- the closing bracket of a form, and its line feed
 abbrev pub EndRead : At → At → Type 0

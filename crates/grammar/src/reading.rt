@@ -5,7 +5,7 @@ ghost use Rattle.sheets.specs.Words.{SheetWord, closes};
 ghost use Rattle.sheets.specs.Recogniser.{Item, bytes_then, most_open};
 ghost use Rattle.grammar.specs.Readers.{at, WordKept};
 ghost use Rattle.grammar.specs.declared.fault.GrammarFault.TheVariants.{Broken};
-ghost use Rattle.grammar.specs.Readings.{rest, Took, NextIs, SecondIs, NotHere, Stops, Fails, WordRead, head_items, HeadRead, CellRead, PinRead, PinsRead, end_items, EndRead, input_items, line_items, NoForms, FormRead, AllRead};
+ghost use Rattle.grammar.specs.Readings.{rest, Took, NextIs, NotHere, Stops, Fails, WordRead, head_items, HeadRead, CellRead, PinRead, PinsRead, start_items, StartRead, end_items, EndRead, input_items, line_items, NoForms, FormRead, AllRead};
 ghost use Rattle.grammar.specs.Views.{opened, view, views};
 
 use crate::fault::GrammarFault;
@@ -27,13 +27,6 @@ impl<'a> Reader<'a> {
         ensures { NextIs byte (at self.now) result }
     {
         self.rest().first() == Some(&byte)
-    }
-
-    // Whether this is the byte after the next.
-    fn second_is(&self, byte: u8) -> bool
-        ensures { SecondIs byte (at self.now) result }
-    {
-        self.rest().get(1) == Some(&byte)
     }
 
     // Keeps the word that is made of the next bytes, as many as were found, and moves past them; or breaks where none could go on.
@@ -164,6 +157,16 @@ impl<'a> Reader<'a> {
         Ok(())
     }
 
+    // The start of a form: its opening bracket, its word and its name, and the space after it.
+    fn form_start(&mut self, opens: Opening, word: &[u8]) -> Result<(), GrammarFault>
+        ensures { MatchResult result (λ _. StartRead opens word.now (at self.old) (at self.new)) (λ f. Fails (start_items word.now) (at self.old) f) }
+    {
+        self.opening(opens)?;
+        self.literal(word)?;
+        self.name()?;
+        self.expect(b' ')
+    }
+
     // The end of a form on its line.
     fn form_end(&mut self) -> Result<(), GrammarFault>
         ensures { MatchResult result (λ _. EndRead (at self.old) (at self.new)) (λ f. Stops end_items most_open (at self.old) f) }
@@ -175,10 +178,7 @@ impl<'a> Reader<'a> {
     fn input_form(&mut self) -> Result<(), GrammarFault>
         ensures { MatchResult result (λ _. FormRead (at self.old) (at self.new)) (λ f. Stops input_items most_open (at self.old) f) }
     {
-        self.opening(Opening::Input)?;
-        self.literal(b"input ")?;
-        self.name()?;
-        self.expect(b' ')?;
+        self.form_start(Opening::Input, b"input ")?;
         self.delay()?;
         self.form_end()
     }
@@ -186,10 +186,7 @@ impl<'a> Reader<'a> {
     fn line_form(&mut self) -> Result<(), GrammarFault>
         ensures { MatchResult result (λ _. FormRead (at self.old) (at self.new)) (λ f. Stops line_items most_open (at self.old) f) }
     {
-        self.opening(Opening::Line)?;
-        self.literal(b"line ")?;
-        self.name()?;
-        self.expect(b' ')?;
+        self.form_start(Opening::Line, b"line ")?;
         self.cell(MAX_DEPTH)?;
         self.form_end()
     }
@@ -199,10 +196,9 @@ impl<'a> Reader<'a> {
         requires { self.old.place < length self.old.sheet.now }
         ensures { MatchResult result (λ _. FormRead (at self.old) (at self.new)) (λ f. NoForms (at self.old) f) }
     {
-        if self.second_is(b'l') {
-            self.line_form()
-        } else {
-            self.input_form()
+        match self.rest() {
+            [_, b'l', ..] => self.line_form(),
+            _ => self.input_form(),
         }
     }
 
