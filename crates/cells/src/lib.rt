@@ -4,4 +4,5 @@
 pub mod decide;
 pub mod order;
 pub mod pins;
+pub mod table;
 pub mod tables;

@@ -1,8 +1,12 @@
-// Truth tables: bit r of a table is the output in row r, and pin i has weight 2 ^ i in a row number.
+// What a truth table gives, and when some of the pins force it.
 ghost use Rattle.std.specs.Prelude.{◌≡◌, ◌^◌, ◌<◌, ◌≤◌, false, Decides, slice_index_or};
-ghost use Rattle.cells.specs.Tables.{bit, agrees, Forces};
+ghost use Rattle.cells.specs.Pins.{at_pin};
+ghost use Rattle.cells.specs.Tables.{bit, row, agrees, Forces};
 
+use crate::pins::Pins;
+use crate::table::Table;
 use lines::limits::MAX_PINS;
+use lines::line::Cell;
 
 // Bit i of n.
 pub fn bit_of(n: usize, i: usize) -> bool
@@ -12,20 +16,55 @@ pub fn bit_of(n: usize, i: usize) -> bool
     (n >> i) % 2 == 1
 }
 
-// Whether the row `other` agrees with `row` at some of the pins.
-fn agrees_at(some: [bool; MAX_PINS], count: usize, row: usize, other: usize) -> bool
-    requires { count ≤ 4 }
-    ensures { result ≡ agrees (λ pin. slice_index_or some pin false) count row other }
-{
-    (0..count).all(|pin| !some[pin] || bit_of(other, pin) == bit_of(row, pin))
-}
+impl Table {
+    // The table of a cell.
+    pub fn of_cell(cell: Cell) -> Table
+        requires few { cell.count ≤ 4 }
+        ensures outputs { result.outputs ≡ cell.table }
+        ensures pins { result.pins ≡ cell.count }
+    {
+        Table {
+            outputs: cell.table as usize,
+            pins: cell.count,
+        }
+    }
 
-// Whether some of the pins force the output of the table in `row`.
-pub fn forced_by(some: [bool; MAX_PINS], table: usize, count: usize, row: usize) -> bool
-    requires { (count ≤ 4) × (row < 2 ^ count) }
-    ensures { Decides result (Forces (λ pin. slice_index_or some pin false) table count row) }
-{
-    (0..1 << count).all(|other| {
-        bit_of(table, other) == bit_of(table, row) || !agrees_at(some, count, row, other)
-    })
+    // The number of the row with the values at the pins.
+    pub fn row_of(self, values: Pins<bool>) -> usize
+        ensures row { result ≡ row self.pins (at_pin values) }
+        ensures below { result < 2 ^ self.pins }
+    {
+        let mut row = 0;
+        for pin in 0..self.pins {
+            if values.get(pin) {
+                row += 1 << pin;
+            }
+        }
+        row
+    }
+
+    // The output in a row.
+    pub fn output(self, row: usize) -> bool
+        requires row { row < 2 ^ self.pins }
+        ensures { result ≡ bit self.outputs row }
+    {
+        bit_of(self.outputs, row)
+    }
+
+    // Whether the row `other` agrees with `row` at some of the pins.
+    fn agrees_at(self, some: [bool; MAX_PINS], row: usize, other: usize) -> bool
+        ensures { result ≡ agrees (λ pin. slice_index_or some pin false) self.pins row other }
+    {
+        (0..self.pins).all(|pin| !some[pin] || bit_of(other, pin) == bit_of(row, pin))
+    }
+
+    // Whether some of the pins force the output in `row`.
+    pub fn is_forced(self, some: [bool; MAX_PINS], row: usize) -> bool
+        requires row { row < 2 ^ self.pins }
+        ensures { Decides result (Forces (λ pin. slice_index_or some pin false) self.outputs self.pins row) }
+    {
+        (0..1 << self.pins).all(|other| {
+            self.output(other) == self.output(row) || !self.agrees_at(some, row, other)
+        })
+    }
 }

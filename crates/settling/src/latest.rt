@@ -9,9 +9,9 @@ ghost use Rattle.settling.specs.Latest.{in_setting, latest_at, latest_input, lat
 
 use crate::input::input_time;
 use crate::tied::Tied;
-use cells::decide::decided_at;
 use cells::order::later_of;
 use cells::pins::Pins;
+use cells::table::Table;
 use cells::tables::bit_of;
 use lines::delay::delay_of;
 use lines::line::{Cell, Driver, Line};
@@ -63,15 +63,15 @@ fn row_latest<T: Time>(
     row: usize,
     work: &[Latest<T>],
 ) -> Option<T>
-    requires { LawfulCell (length work.now) cell × (row < 2 ^ cell.count) }
+    requires lawful { LawfulCell (length work.now) cell }
+    requires row { row < 2 ^ cell.count }
     ensures { result ≡ latest_by_row T.kind (latest_line work.now) line cell value row }
 {
-    let table = cell.table as usize;
-    if bit_of(table, row) != value {
+    let table = Table::of_cell(cell);
+    if table.output(row) != value {
         return None;
     }
-    let times = row_times(cell, row, work)?;
-    let decided = decided_at(table, cell.count, row, times);
+    let decided = table.decided_at(row, row_times(cell, row, work)?);
     Some(decided.after(delay_of(line, value)))
 }
 

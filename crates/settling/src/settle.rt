@@ -1,16 +1,12 @@
 // The final value and settle time of every line under a vector.
-ghost use Rattle.std.specs.Prelude.{◌≡◌, ◌<◌, ◌≤◌, ◌++◌, map, length, drop};
+ghost use Rattle.std.specs.Prelude.{◌≡◌, ◌≤◌, ◌++◌, map, length, drop};
 ghost use Rattle.lines.specs.Lines.{inputs, LawfulDriver};
-ghost use Rattle.cells.specs.Pins.{at_pin};
-ghost use Rattle.cells.specs.Tables.{row};
 ghost use Rattle.settling.specs.Settle.{in_vector, tied_by, as_settled, settle_driver, settled, settled_value, settled_time, Settles};
 
 use crate::input::input_time;
 use crate::pins::at_pins;
 use crate::tied::Tied;
-use cells::decide::decided_at;
-use cells::pins::Pins;
-use cells::tables::bit_of;
+use cells::table::Table;
 use lines::delay::delay_of;
 use lines::line::{Driver, Line};
 use times::time::Time;
@@ -20,20 +16,6 @@ use times::time::Time;
 pub struct Settled<T> {
     pub value: bool,
     pub time: T,
-}
-
-// The row number of the values at the pins.
-fn row_of(values: Pins<bool>, count: usize) -> usize
-    requires { count ≤ 4 }
-    ensures { result ≡ row count (at_pin values) }
-{
-    let mut row = 0;
-    for pin in 0..count {
-        if values.get(pin) {
-            row += 1 << pin;
-        }
-    }
-    row
 }
 
 impl Tied<'_> {
@@ -61,11 +43,10 @@ impl Tied<'_> {
                 }
             }
             Driver::Output(cell) => {
-                let table = cell.table as usize;
-                let row = row_of(at_pins(cell, values, false), cell.count);
-                let at = at_pins(cell, times, T::start());
-                let decided = decided_at(table, cell.count, row, at);
-                let value = bit_of(table, row);
+                let table = Table::of_cell(cell);
+                let row = table.row_of(at_pins(cell, values, false));
+                let decided = table.decided_at(row, at_pins(cell, times, T::start()));
+                let value = table.output(row);
                 Settled {
                     value,
                     time: decided.after(delay_of(line, value)),

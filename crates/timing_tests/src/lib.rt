@@ -3,8 +3,8 @@
 
 #[cfg(test)]
 mod tests {
-    use cells::decide::decided_at;
     use cells::pins::Pins;
+    use cells::table::Table;
     use families::family::Family;
     use families::pair::Pair;
     use gates::plain::Plain;
@@ -65,11 +65,19 @@ mod tests {
     #[test]
     fn mux_decides(rt: HostRuntime) {
         let at = Pins::all(ticks(9)).with(1, ticks(2)).with(2, ticks(4));
-        assert_eq!(rt; decided_at(0xe4, 3, 6, at), ticks(4));
-        assert_eq!(rt; decided_at(0xe4, 3, 7, at), ticks(4));
-        assert_eq!(rt; decided_at(0xe4, 3, 2, at), ticks(9));
+        let mux = Table {
+            outputs: 0xe4,
+            pins: 3,
+        };
+        assert_eq!(rt; mux.decided_at(6, at), ticks(4));
+        assert_eq!(rt; mux.decided_at(7, at), ticks(4));
+        assert_eq!(rt; mux.decided_at(2, at), ticks(9));
         // a table with one output for all rows: the earliest pin
-        assert_eq!(rt; decided_at(0xff, 3, 0, at), ticks(2));
+        let ones = Table {
+            outputs: 0xff,
+            pins: 3,
+        };
+        assert_eq!(rt; ones.decided_at(0, at), ticks(2));
     }
 
     #[test]

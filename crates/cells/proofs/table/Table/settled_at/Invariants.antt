@@ -1,7 +1,7 @@
 use Rattle.std.proofs.Common.{◌≡◌, ℕ, ◌<◌, false, length, get_or}
 use Rattle.cells.specs.Deciding.{settled_by}
 use Rattle.cells.specs.Pins.{at_pin}
-use Rattle.cells.proofs.decide.settled_at.Given as goal
+use Rattle.cells.proofs.table.Table.settled_at.Given as goal
 
 -- the pins so far are marked
 abbrev pub invariant-loop-pin : goal.invariant-loop-pin

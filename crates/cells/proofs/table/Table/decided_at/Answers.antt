@@ -1,0 +1,17 @@
+use Rattle.std.proofs.Common.{false, get_or, unwrap_or, ap, ◌∙◌, arith}
+use Rattle.cells.specs.Pins.{at_pin}
+use Rattle.cells.proofs.DecidingLaws.{forcing_more, forcing_all}
+use Rattle.cells.proofs.table.Table.decided_at.Goals as goal
+
+pub loop-pin-preserved : goal.loop-pin-preserved
+loop-pin-preserved g c =
+    forcing_more g.T.Time.kind c.args.self.outputs c.args.self.pins c.args.row (at_pin c.args.times) c.loop-pin.pin (λ pin. get_or c.settled_at.result pin false) c.is_forced-enough.result
+    c.get-time.result c.then_some.result c.loop-pin.best c.sooner_of-best.result
+    c.get-time.ensures c.settled_at.ensures c.is_forced-enough.ensures c.then_some.ensures c.sooner_of-best.ensures c.loop-pin.invariant
+
+pub returns : goal.returns
+returns g c =
+    let kind = g.T.Time.kind in
+    let decided = forcing_all kind g.met.T.Time.lawful c.args.self.outputs c.args.self.pins c.args.row (at_pin c.args.times) c.loop-pin.pin c.loop-pin.best c.unwrap_or.result
+    (omega arith) c.loop-pin.invariant c.requires.row (c.unwrap_or.ensures ∙ ap (unwrap_or c.loop-pin.best) c.start.ensures) in
+    record { value = decided.0; decided = decided.1 }
