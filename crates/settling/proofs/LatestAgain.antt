@@ -1,7 +1,7 @@
 -- Latest times brought from one setting to another, line by line. Assumes nothing.
 use Rattle.std.proofs.Common.{◌≡◌, ℕ, ◌+◌, ◌<◌, ◌≤◌, Bool, true, false, not, ◌≢◌, List, length, get_or, set, take, Decides, Option, sym, ◌∙◌, subst, ⊎_elim, arith, length-set, get_or-set_other, get_or-set_same}
 use mathlib.Core.Bool.{false≢true}
-use Rattle.std.proofs.lemmas.List.{get_or_read, get_or-take}
+use Rattle.std.proofs.lemmas.List.{get_or_read, get_or-take, length-take-le}
 use Rattle.std.proofs.lemmas.Bool.{cases_eq, not-true, not-false}
 use Rattle.lines.specs.declared.line.Driver.{Driver}
 use Rattle.lines.specs.declared.line.Driver.TheVariants.{Input, Output}
@@ -33,9 +33,10 @@ so_far_of {Time} kind tied lines new old upto number work work' changed changed'
 pub front_at : (lines : List Line) (upto number : ℕ) → number < upto → get_or (take upto lines) number no_line ≡ line_at lines number
 front_at lines upto number h = get_or-take upto lines number no_line h
 
-pub front_lawful : (lines : List Line) (upto number : ℕ) → Lawful lines → upto ≤ length lines → number < upto → LawfulDriver (inputs lines) number (get_or (take upto lines) number no_line).driver
+pub front_lawful : (lines : List Line) (upto number : ℕ) → Lawful lines → upto ≤ length lines → number < length (take upto lines) → LawfulDriver (inputs lines) number (get_or (take upto lines) number no_line).driver
 front_lawful lines upto number lawful few h =
-    subst (λ (l : Line). LawfulDriver (inputs lines) number l.driver) (sym (front_at lines upto number h)) (lawful_at lines number no_line lawful (omega arith)).in_order
+    let long = length-take-le upto lines few in
+    subst (λ (l : Line). LawfulDriver (inputs lines) number l.driver) (sym (front_at lines upto number (omega arith))) (lawful_at lines number no_line lawful (omega arith)).in_order
 
 -- what holds of each number below, and of the number, holds of each number up to it
 one_more : (P : ℕ → Type 0) (n : ℕ) → ((k : ℕ) → k < n → P k) → P n → (k : ℕ) → k < n + 1 → P k

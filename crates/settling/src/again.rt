@@ -32,7 +32,8 @@ fn is_same<T: Time>(a: Latest<T>, b: Latest<T>) -> bool
 
 // Whether the line has the latest times that it had: it is a cell's, and no line at a pin of it has changed.
 fn has_stayed(line: Line, number: usize, changed: &[bool]) -> bool
-    requires { ((count : ℕ) × LawfulDriver count number line.driver) × (number ≤ length changed.now) }
+    requires driver { (count : ℕ) × LawfulDriver count number line.driver }
+    requires below { number ≤ length changed.now }
     ensures { result ≡ stays changed.now line.driver }
 {
     match line.driver {

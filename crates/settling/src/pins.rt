@@ -8,7 +8,8 @@ use lines::line::Cell;
 
 // At each pin of the cell what is known of the line that feeds it; past them `other`.
 pub(crate) fn at_pins<X: Copy>(cell: Cell, known: &[X], other: X) -> Pins<X>
-    requires { (cell.count ≤ 4) × ((pin : ℕ) → pin < cell.count → feeder cell pin < length known.now) }
+    requires few { cell.count ≤ 4 }
+    requires known { (pin : ℕ) → pin < cell.count → feeder cell pin < length known.now }
     ensures { (pin : ℕ) → pin < cell.count → at_pin result pin ≡ slice_index_or known.now (feeder cell pin) other }
 {
     let mut at = Pins::all(other);

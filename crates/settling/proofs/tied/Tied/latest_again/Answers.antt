@@ -20,16 +20,14 @@ loop-number-init g c = (
   },
 )
 
-pub has_stayed-requires : goal.has_stayed-requires
-has_stayed-requires g c =
+pub has_stayed-requires-clause-driver : goal.has_stayed-requires-clause-driver
+has_stayed-requires-clause-driver g c =
     let lines = c.args.self.lines.now in
-    let long = length-take-le c.args.upto lines c.requires.upto in
-    ((inputs lines, front_lawful lines c.args.upto c.loop-number.number (lawful_of lines c.args.self.lawful) c.requires.upto (omega arith)), omega (arith, c.loop-number.invariant.1.size))
+    (inputs lines, front_lawful lines c.args.upto c.loop-number.number (lawful_of lines c.args.self.lawful) c.requires.upto (omega arith))
 
 pub line_latest-times-requires-clause-driver : goal.line_latest-times-requires-clause-driver
 line_latest-times-requires-clause-driver g c =
     let lines = c.args.self.lines.now in
-    let long = length-take-le c.args.upto lines c.requires.upto in
     front_lawful lines c.args.upto c.loop-number.number (lawful_of lines c.args.self.lawful) c.requires.upto (omega arith)
 
 pub loop-number-preserved : goal.loop-number-preserved
