@@ -1,4 +1,4 @@
-use Rattle.std.proofs.Common.{false, get_or, unwrap_or, ap, ◌∙◌, arith}
+use Rattle.std.proofs.Common.{false, get_or, arith}
 use Rattle.cells.specs.Pins.{at_pin}
 use Rattle.cells.proofs.DecidingLaws.{forcing_more, forcing_all}
 use Rattle.cells.proofs.table.Table.decided_at.Goals as goal
@@ -13,5 +13,5 @@ pub returns : goal.returns
 returns g c =
     let kind = g.T.Time.kind in
     let decided = forcing_all kind g.met.T.Time.lawful c.args.self.outputs c.args.self.pins c.args.row (at_pin c.args.times) c.loop-pin.pin c.loop-pin.best c.unwrap_or.result
-    (omega arith) c.loop-pin.invariant c.requires.row (c.unwrap_or.ensures ∙ ap (unwrap_or c.loop-pin.best) c.start.ensures) in
+    (omega arith) c.loop-pin.invariant c.requires.row (cc) in
     record { value = decided.0; decided = decided.1 }
