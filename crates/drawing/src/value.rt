@@ -1,4 +1,4 @@
-// Delays as numbers.
+// Delays as numbers. The reader has seen that they are digits and few, so there is no error that `parse` could answer with.
 ghost use Rattle.std.specs.Prelude.{◌≡◌, ◌≤◌, length};
 ghost use Rattle.sheets.specs.Sheet.{max_digits};
 ghost use Rattle.drawing.specs.Drawing.{number_from};

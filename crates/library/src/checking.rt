@@ -57,6 +57,7 @@ fn is_bad(earlier: &[Entry], entry: &Entry) -> bool
 pub fn check_entries(entries: &[Entry]) -> Result<(), LibraryFault>
     ensures { EntriesChecked entries.now result }
 {
+    // by number, since each is checked against those before it
     for (i, entry) in entries.iter().enumerate() {
         if is_bad(&entries[..i], entry) {
             return Err(LibraryFault { entry: i });

@@ -69,6 +69,7 @@ impl Plan {
         requires { vec_len self.old.calls ≡ 0 }
         ensures { PlansFor (line_forms (sealed network.now)) self.new }
     {
+        // by number: a call asks for a line by its number
         for line in network.input_count()..network.line_count() {
             self.ask_named(line, network.name_of(line));
         }

@@ -1,4 +1,5 @@
-// Text put together in room that was asked for before.
+// Text put together in room that was asked for before, and piece by piece: `write!` into a `Vec` can fail for memory, and an
+// answer cannot.
 ghost use Rattle.std.specs.Prelude.{◌≡◌, ◌+◌, ◌≤◌, ◌++◌, length, IfOk, vec_len, vec_capacity, decimal};
 ghost use Rattle.lines.specs.Limits.{max_inputs};
 ghost use Rattle.names.specs.Names.{max_name};

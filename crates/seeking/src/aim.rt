@@ -3,7 +3,8 @@ ghost use Rattle.std.specs.Prelude.{◌<◌, length};
 
 use settling::tied::Tied;
 
-// The network with its ties, and the number of the line.
+// The network with its ties, and the number of the line. The setting and the work places change at each look, so they stay
+// parameters: lent in a struct, each change would have to show again that they are as long as the network.
 #[derive(Clone, Copy)]
 pub struct Target<'a> {
     pub network: Tied<'a>,

@@ -61,6 +61,7 @@ impl Tied<'_> {
         requires worked { Worked T.kind (tied_by self.ties.now) self.lines.now upto work.old }
         ensures { Under T.kind (tied_by self.entry.ties.now) self.entry.lines.now upto (in_setting setting.now) work.new }
     {
+        // for the most lines that there can be, since this can want no memory
         let mut changed = [false; MAX_LINES];
         for (number, line) in self.lines[..upto].iter().enumerate() {
             if !has_stayed(*line, number, &changed) {

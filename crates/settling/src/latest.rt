@@ -81,6 +81,7 @@ fn output_latest<T: Time>(line: Line, cell: Cell, value: bool, work: &[Latest<T>
     ensures { result ≡ latest_output T.kind (latest_line work.now) line cell value }
 {
     let mut best = None;
+    // by number: a row is its number
     for row in 0..1 << cell.count {
         best = later_of(row_latest(line, cell, value, row, work), best);
     }

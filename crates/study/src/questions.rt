@@ -1,4 +1,5 @@
-// The calls that ask of a study.
+// The calls that ask of a study. The vectors and settings that they work on lie in arrays for the most inputs, since a call
+// can want no memory.
 ghost use Rattle.turns.specs.Asked.{settle, seek, worst, told_settle, told_seek, told_worst};
 ghost use Rattle.study.specs.Standing.{Promises, Keeps};
 
