@@ -206,17 +206,17 @@ where
         vector: &[u8],
     ) -> Result<String, AllocError> {
         match outcome {
-            Ok(Looked {
-                found: Some(time),
-                looks,
-            }) => {
+            Ok(
+                Looked {
+                    found: Some(time),
+                    looks,
+                },
+            ) => {
                 let digits = self.digits(vector)?;
                 format!(in self.heap; "found {digits} time {time} looks {looks}")
             }
             _ if !places_stay(vector, 0, MARK) => overwritten(self.heap),
-            Ok(Looked { found: None, looks }) => {
-                format!(in self.heap; "nothing looks {looks}")
-            }
+            Ok(Looked { found: None, looks }) => { format!(in self.heap; "nothing looks {looks}") }
             Err(fault) => refused(self.heap, fault.number()),
         }
     }

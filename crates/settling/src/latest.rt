@@ -1,12 +1,13 @@
 // The latest time of every line at each value under a setting.
 ghost use Rattle.std.specs.Prelude.{◌≡◌, ℕ, ◌^◌, ◌<◌, ◌≤◌, ◌++◌, length, drop, is_some};
 ghost use Rattle.std.specs.Option.{IfSome, unwrap_or};
-ghost use Rattle.lines.specs.Lines.{inputs, LawfulCell, LawfulDriver};
+ghost use Rattle.lines.specs.Lines.{inputs, LawfulDriver};
 ghost use Rattle.cells.specs.Tables.{every_below};
 ghost use Rattle.cells.specs.Pins.{at_pin};
 ghost use Rattle.settling.specs.Settle.{tied_by};
 ghost use Rattle.settling.specs.Latest.{in_setting, latest_at, latest_input, latest_line, latest_pin, latest_by_row, latest_output, latest_driver, latest, LatestTimes};
 
+use crate::fed::Fed;
 use crate::input::input_time;
 use crate::tied::Tied;
 use cells::order::later_of;
@@ -14,7 +15,7 @@ use cells::pins::Pins;
 use cells::table::Table;
 use cells::tables::bit_of;
 use lines::delay::delay_of;
-use lines::line::{Cell, Driver, Line};
+use lines::line::{Driver, Line};
 use times::time::Time;
 
 // A line's latest time at each value, or none.
@@ -42,50 +43,43 @@ fn input_latest<T: Time>(line: Line, tied: bool, decided: Option<bool>, value: b
         .then_some(input_time(line, value, tied))
 }
 
-// The latest times of a cell's pins at their values in a row, where each has one.
-fn row_times<T: Time>(cell: Cell, row: usize, work: &[Latest<T>]) -> Option<Pins<T>>
-    requires { LawfulCell (length work.now) cell }
-    ensures every { is_some result ≡ every_below cell.count (λ pin. is_some (latest_pin (latest_line work.now) cell row pin)) }
-    ensures times { IfSome result (λ at. (pin : ℕ) → pin < cell.count → at_pin at pin ≡ unwrap_or (latest_pin (latest_line work.now) cell row pin) T.kind.start) }
-{
-    let mut at = Pins::all(T::start());
-    for (pin, line) in cell.pins[..cell.count].iter().enumerate() {
-        at = at.with(pin, work[*line].at(bit_of(row, pin))?);
+impl<T: Time> Fed<'_, T> {
+    // The latest times of the cell's pins at their values in a row, where each has one.
+    fn row_times(&self, row: usize) -> Option<Pins<T>>
+        ensures every { is_some result ≡ every_below self.now.cell.count (λ pin. is_some (latest_pin (latest_line self.now.work.now) self.now.cell row pin)) }
+        ensures times { IfSome result (λ at. (pin : ℕ) → pin < self.now.cell.count → at_pin at pin ≡ unwrap_or (latest_pin (latest_line self.now.work.now) self.now.cell row pin) T.kind.start) }
+    {
+        let mut at = Pins::all(T::start());
+        for (pin, line) in self.cell.pins[..self.cell.count].iter().enumerate() {
+            at = at.with(pin, self.work[*line].at(bit_of(row, pin))?);
+        }
+        Some(at)
     }
-    Some(at)
-}
 
-// The latest time that a row gives for a value, if it can.
-fn row_latest<T: Time>(
-    line: Line,
-    cell: Cell,
-    value: bool,
-    row: usize,
-    work: &[Latest<T>],
-) -> Option<T>
-    requires lawful { LawfulCell (length work.now) cell }
-    requires row { row < 2 ^ cell.count }
-    ensures { result ≡ latest_by_row T.kind (latest_line work.now) line cell value row }
-{
-    let table = Table::of_cell(cell);
-    if table.output(row) != value {
-        return None;
+    // The latest time that a row gives the cell's line for a value, if it can.
+    fn row_latest(&self, line: Line, value: bool, row: usize) -> Option<T>
+        requires { row < 2 ^ self.now.cell.count }
+        ensures { result ≡ latest_by_row T.kind (latest_line self.now.work.now) line self.now.cell value row }
+    {
+        let table = Table::of_cell(self.cell);
+        if table.output(row) != value {
+            return None;
+        }
+        let decided = table.decided_at(row, self.row_times(row)?);
+        Some(decided.after(delay_of(line, value)))
     }
-    let decided = table.decided_at(row, row_times(cell, row, work)?);
-    Some(decided.after(delay_of(line, value)))
-}
 
-// The latest time of a cell's line at a value: the greatest that a row gives.
-fn output_latest<T: Time>(line: Line, cell: Cell, value: bool, work: &[Latest<T>]) -> Option<T>
-    requires { LawfulCell (length work.now) cell }
-    ensures { result ≡ latest_output T.kind (latest_line work.now) line cell value }
-{
-    let mut best = None;
-    // by number: a row is its number
-    for row in 0..1 << cell.count {
-        best = later_of(row_latest(line, cell, value, row, work), best);
+    // The latest time of the cell's line at a value: the greatest that a row gives.
+    fn output_latest(&self, line: Line, value: bool) -> Option<T>
+        ensures { result ≡ latest_output T.kind (latest_line self.now.work.now) line self.now.cell value }
+    {
+        let mut best = None;
+        // by number: a row is its number
+        for row in 0..1 << self.cell.count {
+            best = later_of(self.row_latest(line, value, row), best);
+        }
+        best
     }
-    best
 }
 
 impl Tied<'_> {
@@ -111,10 +105,13 @@ impl Tied<'_> {
                     one: input_latest(line, tied, decided, true),
                 }
             }
-            Driver::Output(cell) => Latest {
-                zero: output_latest(line, cell, false, work),
-                one: output_latest(line, cell, true, work),
-            },
+            Driver::Output(cell) => {
+                let fed = Fed { cell, work };
+                Latest {
+                    zero: fed.output_latest(line, false),
+                    one: fed.output_latest(line, true),
+                }
+            }
         }
     }
 

@@ -2,6 +2,7 @@
 #![tactic(auto)]
 
 pub mod again;
+mod fed;
 pub mod input;
 pub mod latest;
 mod pins;
