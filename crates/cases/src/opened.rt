@@ -17,7 +17,7 @@ use turns::fault::StudyFault;
 // A byte that no call writes into a vector.
 const MARK: u8 = 170;
 
-// A study with the numbers of inputs and of lines that its network had.
+// A study with the numbers of inputs and of lines that its network had, since a study does not tell them.
 #[derive(Drop)]
 pub struct Opened<T: Time> {
     heap: Global,

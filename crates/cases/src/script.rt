@@ -17,7 +17,7 @@ pub struct Sizes {
     pub second: usize,
 }
 
-// A call on the open study, with the sizes where they are written.
+// A call on the open study, with the sizes where they are written. A value is a byte, as the calls take it.
 #[derive(Drop)]
 pub enum StudyStep<'a> {
     Settle {

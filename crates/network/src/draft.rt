@@ -8,7 +8,8 @@ use names::name::Name;
 
 // A network that is being drawn: its lines in order, and beside each its name, if it has one.
 // Room for the most lines is reserved when it is made, so that no later call wants memory.
-// Lines and names are two lists and not one of pairs: a study takes the list of lines over as it is.
+// Lines and names are two lists and not one of pairs: a study takes the list of lines over as it is,
+// and can want no memory for another.
 #[derive(Drop)]
 pub struct Draft {
     pub(crate) lines: Vec<Line>,

@@ -7,7 +7,8 @@ use lines::line::Line;
 use names::name::Name;
 
 // A sealed draft: no line is added any more, and at least one is an input.
-// Lines and names are two lists and not one of pairs: a study takes the list of lines over as it is.
+// Lines and names are two lists and not one of pairs: a study takes the list of lines over as it is,
+// and can want no memory for another.
 #[derive(Drop)]
 pub struct Network {
     pub lines: Vec<Line>,

@@ -1,5 +1,5 @@
 // What a network tells of its lines. A draft tells some of it too, by functions of its own: they are two types, so that no
-// line can be added to a network, and each function is a field or one call of `find_line`.
+// line can be added to a network, and each function is one expression.
 ghost use Rattle.std.specs.Prelude.{◌≡◌, ◌<◌, length, None, slice_index_or};
 ghost use Rattle.lines.specs.Lines.{inputs};
 ghost use Rattle.network.specs.Drafts.{sealed};

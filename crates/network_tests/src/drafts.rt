@@ -1,5 +1,5 @@
 // Drafts: what is refused, with which number, and what is drawn.
-ghost use Rattle.std.specs.Prelude.{◌≡◌, MatchResult};
+ghost use Rattle.std.specs.Prelude.{◌≡◌, Some, None, MatchResult};
 ghost use Rattle.network.specs.Refusals.{number};
 
 use library::board::board;
@@ -9,14 +9,11 @@ use network::draft::Draft;
 use network::fault::DraftFault;
 use std::test::Fail;
 
-// The number of a refusal, or 0.
-fn refusal<T: Drop>(answer: Result<T, DraftFault>) -> u8
-    ensures { MatchResult answer (λ _. result ≡ 0) (λ fault. result ≡ number fault) }
+// The number of a refusal, if it is one.
+fn refusal<T: Drop>(answer: Result<T, DraftFault>) -> Option<u8>
+    ensures { MatchResult answer (λ _. result ≡ None) (λ fault. result ≡ Some (number fault)) }
 {
-    match answer {
-        Ok(_) => 0,
-        Err(fault) => fault.number(),
-    }
+    answer.err().map(|fault| fault.number())
 }
 
 // A name, and the refusal that it meets beside a line a.
@@ -25,15 +22,15 @@ fn names_at_their_edges(rt: HostRuntime) -> Result<(), Fail> {
     let mut draft = Draft::new(rt.alloc())?;
     draft.add_input(b"a", 0)?;
     for (name, number) in [
-        (&b"b"[..], 0),
-        (&b"a"[..], 2),
-        (&b"aa"[..], 0),
-        (&b"abcdefgh"[..], 0),
-        (&b"abcdefghi"[..], 1),
-        (&b""[..], 1),
-        (&b"A"[..], 1),
-        (&b"a1"[..], 0),
-        (&b"1a"[..], 1),
+        (&b"b"[..], None),
+        (&b"a"[..], Some(2)),
+        (&b"aa"[..], None),
+        (&b"abcdefgh"[..], None),
+        (&b"abcdefghi"[..], Some(1)),
+        (&b""[..], Some(1)),
+        (&b"A"[..], Some(1)),
+        (&b"a1"[..], None),
+        (&b"1a"[..], Some(1)),
     ] {
         assert_eq!(rt; refusal(draft.check_name(name)), number);
     }
@@ -44,8 +41,8 @@ fn names_at_their_edges(rt: HostRuntime) -> Result<(), Fail> {
 
 #[test]
 fn delays_at_their_edges(rt: HostRuntime) {
-    assert_eq!(rt; refusal(check_delay(MAX_DELAY)), 0);
-    assert_eq!(rt; refusal(check_delay(MAX_DELAY + 1)), 5);
+    assert_eq!(rt; refusal(check_delay(MAX_DELAY)), None);
+    assert_eq!(rt; refusal(check_delay(MAX_DELAY + 1)), Some(5));
 }
 
 // All inputs that there may be, and one more.
@@ -55,7 +52,7 @@ fn inputs_to_the_last(rt: HostRuntime) -> Result<(), Fail> {
     for i in 0..MAX_INPUTS {
         assert_eq!(rt; draft.add_input(&[b'a' + i as u8], 1), Ok(i));
     }
-    assert_eq!(rt; refusal(draft.add_input(b"y", 1)), 6);
+    assert_eq!(rt; refusal(draft.add_input(b"y", 1)), Some(6));
     draft.check_seal()?;
     assert_eq!(rt; draft.seal().input_count(), MAX_INPUTS);
     Ok(())
@@ -75,9 +72,9 @@ fn lines_to_the_last(rt: HostRuntime) -> Result<(), Fail> {
     }
     assert_eq!(rt;
         refusal(draft.add_cell(&library, None, b"maj", 1, &[0, 0, 0])),
-        6
+        Some(6)
     );
-    assert_eq!(rt; refusal(draft.add_input(b"b", 1)), 6);
+    assert_eq!(rt; refusal(draft.add_input(b"b", 1)), Some(6));
     draft.check_seal()?;
     assert_eq!(rt; draft.seal().line_count(), MAX_LINES);
     Ok(())
@@ -91,21 +88,21 @@ fn pins_at_their_edges(rt: HostRuntime) -> Result<(), Fail> {
     draft.add_input(b"a", 1)?;
     draft.add_input(b"b", 1)?;
     for (pins, number) in [
-        (&[][..], 4),
-        (&[0][..], 4),
-        (&[0, 0, 0, 0][..], 4),
-        (&[0, 0, 0, 0, 0][..], 4),
-        (&[2, 0, 0][..], 10),
-        (&[0, 0, 2][..], 10),
-        (&[0, 3, 0][..], 10),
-        (&[0, 1, 1][..], 0),
+        (&[][..], Some(4)),
+        (&[0][..], Some(4)),
+        (&[0, 0, 0, 0][..], Some(4)),
+        (&[0, 0, 0, 0, 0][..], Some(4)),
+        (&[2, 0, 0][..], Some(10)),
+        (&[0, 0, 2][..], Some(10)),
+        (&[0, 3, 0][..], Some(10)),
+        (&[0, 1, 1][..], None),
     ] {
         assert_eq!(rt;
             refusal(draft.add_cell(&library, None, b"mux", 1, pins)),
             number
         );
     }
-    assert_eq!(rt; refusal(draft.add_input(b"c", 1)), 8);
+    assert_eq!(rt; refusal(draft.add_input(b"c", 1)), Some(8));
     Ok(())
 }
 
@@ -115,16 +112,22 @@ fn least_number(rt: HostRuntime) -> Result<(), Fail> {
     let library = board(rt.alloc())?;
     let mut draft = Draft::new(rt.alloc())?;
     draft.add_input(b"a", 1)?;
-    assert_eq!(rt; refusal(draft.add_input(b"A", MAX_DELAY + 1)), 1);
-    assert_eq!(rt; refusal(draft.add_input(b"a", MAX_DELAY + 1)), 2);
-    assert_eq!(rt; refusal(draft.add_input(b"b", MAX_DELAY + 1)), 5);
+    assert_eq!(rt; refusal(draft.add_input(b"A", MAX_DELAY + 1)), Some(1));
+    assert_eq!(rt; refusal(draft.add_input(b"a", MAX_DELAY + 1)), Some(2));
+    assert_eq!(rt; refusal(draft.add_input(b"b", MAX_DELAY + 1)), Some(5));
     for (name, word, delay, pins, number) in [
-        (&b"a"[..], &b"*"[..], 1, &[][..], 1),
-        (&b"A"[..], &b"maj"[..], 1, &[][..], 1),
-        (&b"a"[..], &b"maj"[..], 1, &[][..], 2),
-        (&b"b"[..], &b"maj"[..], MAX_DELAY + 1, &[1][..], 4),
-        (&b"b"[..], &b"maj"[..], MAX_DELAY + 1, &[1, 1, 1][..], 5),
-        (&b"b"[..], &b"maj"[..], 1, &[1, 1, 1][..], 10),
+        (&b"a"[..], &b"*"[..], 1, &[][..], Some(1)),
+        (&b"A"[..], &b"maj"[..], 1, &[][..], Some(1)),
+        (&b"a"[..], &b"maj"[..], 1, &[][..], Some(2)),
+        (&b"b"[..], &b"maj"[..], MAX_DELAY + 1, &[1][..], Some(4)),
+        (
+            &b"b"[..],
+            &b"maj"[..],
+            MAX_DELAY + 1,
+            &[1, 1, 1][..],
+            Some(5),
+        ),
+        (&b"b"[..], &b"maj"[..], 1, &[1, 1, 1][..], Some(10)),
     ] {
         assert_eq!(rt;
             refusal(draft.add_cell(&library, Some(name), word, delay, pins)),
@@ -139,10 +142,10 @@ fn least_number(rt: HostRuntime) -> Result<(), Fail> {
 fn sealing(rt: HostRuntime) -> Result<(), Fail> {
     let library = board(rt.alloc())?;
     let mut draft = Draft::new(rt.alloc())?;
-    assert_eq!(rt; refusal(draft.check_seal()), 9);
+    assert_eq!(rt; refusal(draft.check_seal()), Some(9));
     draft.add_input(b"a", 1)?;
     draft.clear();
-    assert_eq!(rt; refusal(draft.check_seal()), 9);
+    assert_eq!(rt; refusal(draft.check_seal()), Some(9));
     draft.add_input(b"a", 1)?;
     draft.add_cell(&library, None, b"maj", 1, &[0, 0, 0])?;
     draft.add_cell(&library, Some(b"out"), b"maj", 1, &[0, 1, 0])?;

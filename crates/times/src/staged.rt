@@ -83,6 +83,7 @@ impl From<ParseIntError> for StagedError {
     }
 }
 
+// By hand, since it promises its text.
 impl fmt::Display for StagedError {
     ghost output = { staged_error_text };
 

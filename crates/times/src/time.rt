@@ -11,7 +11,7 @@ pub trait Time: Copy {
     fn start() -> Self
         ensures { result ≡ kind.start };
 
-    // Whether this time is at or before the other.
+    // Whether this time is at or before the other. It is no `PartialOrd`, which would ask more of every kind of time.
     fn at_or_before(self, other: Self) -> bool
         ensures { result ≡ kind.at_or_before self other };
 
