@@ -1,26 +1,21 @@
 // When the pins of a cell decide its output.
-ghost use Rattle.std.specs.Prelude.{◌≡◌, ℕ, ◌^◌, ◌<◌, false, slice_index_or};
+ghost use Rattle.std.specs.Prelude.{◌≡◌, ℕ, ◌^◌, ◌<◌};
 ghost use Rattle.cells.specs.Deciding.{settled_by, Decided, decide, DecideDecides, DecidedOnce, EarlierDecidesNoLater, OneOutputDecidesFirst};
 ghost use Rattle.cells.specs.Pins.{at_pin};
 
 use crate::order::sooner_of;
 use crate::pins::Pins;
 use crate::table::Table;
-use lines::limits::MAX_PINS;
 use times::time::Time;
 
-impl Table {
-    // The pins settled at or before a time.
-    fn settled_at<T: Time>(self, times: Pins<T>, at: T) -> [bool; MAX_PINS]
-        ensures { (pin : ℕ) → pin < self.pins → slice_index_or result pin false ≡ settled_by T.kind (at_pin times) at pin }
-    {
-        let mut settled = [false; MAX_PINS];
-        for pin in 0..self.pins {
-            settled[pin] = times.get(pin).at_or_before(at);
-        }
-        settled
-    }
+// The pins settled at or before a time.
+fn settled_at<T: Time>(times: Pins<T>, at: T) -> Pins<bool>
+    ensures { (pin : ℕ) → at_pin result pin ≡ settled_by T.kind (at_pin times) at pin }
+{
+    times.map(|time| time.at_or_before(at))
+}
 
+impl Table {
     // The time at which the pins decide the output in `row`; the start where there is no pin.
     pub fn decided_at<T: Time>(self, row: usize, times: Pins<T>) -> T
         requires row { row < 2 ^ self.pins }
@@ -30,7 +25,7 @@ impl Table {
         let mut best = None;
         for pin in 0..self.pins {
             let time = times.get(pin);
-            let enough = self.is_forced(self.settled_at(times, time), row);
+            let enough = self.is_forced(settled_at(times, time), row);
             best = sooner_of(enough.then_some(time), best);
         }
         best.unwrap_or(T::start())

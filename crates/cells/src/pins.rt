@@ -1,5 +1,5 @@
 // What stands at the pins of a cell.
-ghost use Rattle.std.specs.Prelude.{◌≡◌};
+ghost use Rattle.std.specs.Prelude.{◌≡◌, ℕ};
 ghost use Rattle.cells.specs.Pins.{all_pins, at_pin, with_pin};
 
 // A field for each of four pins, and no array: who passes an array of a type parameter on has to show that it fits the
@@ -46,6 +46,18 @@ impl<X: Copy> Pins<X> {
             1 => Pins { one: new, ..self },
             2 => Pins { two: new, ..self },
             _ => Pins { three: new, ..self },
+        }
+    }
+    // What a function makes of what stands at each pin.
+    pub fn map<Y: Copy, F: Fn(X) -> Y>(self, f: F) -> Pins<Y>
+        requires { F.IsAlwaysCallable f }
+        ensures { (by : X → Y) → ((x : X) (y : Y) → F.post f x y → y ≡ by x) → (pin : ℕ) → at_pin result pin ≡ by (at_pin self pin) }
+    {
+        Pins {
+            zero: f(self.zero),
+            one: f(self.one),
+            two: f(self.two),
+            three: f(self.three),
         }
     }
 }

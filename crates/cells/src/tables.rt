@@ -1,11 +1,10 @@
 // What a truth table gives, and when some of the pins force it.
-ghost use Rattle.std.specs.Prelude.{◌≡◌, ◌^◌, ◌<◌, ◌≤◌, false, Decides, slice_index_or};
+ghost use Rattle.std.specs.Prelude.{◌≡◌, ◌^◌, ◌<◌, ◌≤◌, Decides};
 ghost use Rattle.cells.specs.Pins.{at_pin};
 ghost use Rattle.cells.specs.Tables.{bit, row, agrees, Forces};
 
 use crate::pins::Pins;
 use crate::table::Table;
-use lines::limits::MAX_PINS;
 use lines::line::Cell;
 
 // Bit i of n.
@@ -52,16 +51,16 @@ impl Table {
     }
 
     // Whether the row `other` agrees with `row` at some of the pins.
-    fn agrees_at(self, some: [bool; MAX_PINS], row: usize, other: usize) -> bool
-        ensures { result ≡ agrees (λ pin. slice_index_or some pin false) self.pins row other }
+    fn agrees_at(self, some: Pins<bool>, row: usize, other: usize) -> bool
+        ensures { result ≡ agrees (at_pin some) self.pins row other }
     {
-        (0..self.pins).all(|pin| !some[pin] || bit_of(other, pin) == bit_of(row, pin))
+        (0..self.pins).all(|pin| !some.get(pin) || bit_of(other, pin) == bit_of(row, pin))
     }
 
     // Whether some of the pins force the output in `row`.
-    pub fn is_forced(self, some: [bool; MAX_PINS], row: usize) -> bool
+    pub fn is_forced(self, some: Pins<bool>, row: usize) -> bool
         requires row { row < 2 ^ self.pins }
-        ensures { Decides result (Forces (λ pin. slice_index_or some pin false) self.outputs self.pins row) }
+        ensures { Decides result (Forces (at_pin some) self.outputs self.pins row) }
     {
         (0..1 << self.pins).all(|other| {
             self.output(other) == self.output(row) || !self.agrees_at(some, row, other)

@@ -1,8 +1,9 @@
-use Rattle.std.proofs.Common.{◌≡◌, ℕ, ◌^◌, ◌<◌, Bool, true, false, get_or, ap, rules, arith}
+use Rattle.std.proofs.Common.{◌≡◌, ℕ, ◌^◌, ◌<◌, Bool, true, false, ap, rules, arith}
 use borrow.Author.Tests.{tests}
 use mathlib.Core.Bool.{beq}
 use Rattle.std.proofs.lemmas.Nat.{one_shl}
 use Rattle.std.proofs.lemmas.Iterator.{cases_from_all, YieldsList-from_range, serves_from_Range}
+use Rattle.cells.specs.Pins.{at_pin}
 use Rattle.cells.specs.Tables.{bit, agrees, implies}
 use Rattle.cells.proofs.Forcing.{every_walked, forces_decides}
 use Rattle.cells.proofs.table.Table.is_forced.Goals as goal
@@ -17,7 +18,7 @@ all-requires-clause-callable c =
 pub returns : goal.returns
 returns c =
     let table = c.args.self in
-    let some : ℕ → Bool = λ pin. get_or c.args.some pin false in
+    let some : ℕ → Bool = at_pin c.args.some in
     let same : ℕ → Bool = λ other. implies (agrees some table.pins c.args.row other) (beq (bit table.outputs other) (bit table.outputs c.args.row)) in
     let rows = 2 ^ table.pins in
     forces_decides c.all.result some table.outputs table.pins c.args.row
