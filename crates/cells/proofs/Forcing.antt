@@ -1,5 +1,5 @@
 -- Every number below another, and forcing: the computed tests say what they should, more pins force what fewer do, and all of them force. Assumes nothing.
-use Rattle.std.proofs.Common.{◌≡◌, ℕ, zero, suc, ◌^◌, ◌<◌, Bool, true, false, ◌&&◌, ◌⊎◌, length, get_or, Decides, sym, refl, ap, ◌∙◌, subst, inl, inr, ⊎_elim, true≢false, arith}
+use Rattle.std.proofs.Common.{◌≡◌, ℕ, zero, suc, ◌^◌, ◌<◌, Bool, true, false, ◌&&◌, ◌⊎◌, List, length, get_or, Decides, sym, refl, ap, ◌∙◌, subst, inl, inr, ⊎_elim, true≢false, arith}
 use mathlib.Core.Bool.{beq, false≢true}
 use native.Mathlib.Nat.{zero-add}
 use Rattle.std.proofs.lemmas.Bool.{and_from, and_parts, cases_lt, false_from_ne_true}
@@ -63,6 +63,16 @@ every_walked n test false walked =
     let h : k < n = omega (arith, walked.1, length-range_with_len 0 n) in
     let there : get_or (range_with_len 0 n) k 0 ≡ k = get_or-range_with_len 0 n k 0 h ∙ zero-add k in
     sym (false_from_ne_true (every_below n test) (λ e. true≢false (sym (every_to n test e k h) ∙ ap test (sym there) ∙ walked.2 0)))
+
+-- the same over a list of numbers, of which the test of each place is known
+pub every_walked_list : (xs : List ℕ) (n : ℕ) (passes test : ℕ → Bool) (all : Bool) → length xs ≡ n → ((i : ℕ) → i < n → passes (get_or xs i 0) ≡ test i)
+    → MatchBool all (AllWithin (λ x. passes x ≡ true) xs 0 (length xs)) ((k : ℕ) × (k < length xs) × HoldsAt (λ x. passes x ≡ false) xs k)
+    → all ≡ every_below n test
+every_walked_list xs n passes test true len same walked =
+    sym (every_from n test (λ i h. sym (same i h) ∙ walked i 0 (omega arith) (omega (arith, len))))
+every_walked_list xs n passes test false len same walked =
+    let h : walked.0 < n = omega (arith, walked.1, len) in
+    sym (false_from_ne_true (every_below n test) (λ e. true≢false (sym (every_to n test e walked.0 h) ∙ sym (same walked.0 h) ∙ walked.2 0)))
 
 agrees_to : (some : ℕ → Bool) (count row other : ℕ) → agrees some count row other ≡ true → Agrees some count row other
 agrees_to some count row other e pin h s =

@@ -6,7 +6,6 @@ ghost use Rattle.settling.specs.Settle.{tied_by};
 ghost use Rattle.settling.specs.Latest.{in_setting, Under, Worked, stays};
 
 use crate::latest::Latest;
-use crate::pins::at_pins;
 use crate::tied::Tied;
 use lines::limits::MAX_LINES;
 use lines::line::{Driver, Line};
@@ -38,10 +37,7 @@ fn has_stayed(line: Line, number: usize, changed: &[bool]) -> bool
 {
     match line.driver {
         Driver::Input => false,
-        Driver::Output(cell) => {
-            let changed = at_pins(cell, changed, false);
-            (0..cell.count).all(|pin| !changed.get(pin))
-        }
+        Driver::Output(cell) => cell.pins[..cell.count].iter().all(|line| !changed[*line]),
     }
 }
 
