@@ -6,7 +6,8 @@ ghost use Rattle.cells.specs.Pins.{at_pin};
 use cells::pins::Pins;
 use lines::line::Cell;
 
-// At each pin of the cell what is known of the line that feeds it; past them `other`.
+// At each pin of the cell what is known of the line that feeds it; past them `other`. `row_times` reads pins too, but stops at
+// the first without a time.
 pub(crate) fn at_pins<X: Copy>(cell: Cell, known: &[X], other: X) -> Pins<X>
     requires few { cell.count ≤ 4 }
     requires known { (pin : ℕ) → pin < cell.count → feeder cell pin < length known.now }

@@ -19,7 +19,8 @@ pub struct Settled<T> {
 }
 
 impl Tied<'_> {
-    // How a line settles, from how the lines below it do.
+    // How a line settles, from how the lines below it do. A line and its number are read from the same walk over the lines,
+    // and what a lawful driver asks is of the two together.
     fn settle_line<T: Time>(
         self,
         line: Line,

@@ -4,7 +4,8 @@ ghost use Rattle.lines.specs.Lines.{inputs, Lawful};
 
 use lines::line::Line;
 
-// Lines, and for each input the value that it is tied to, or None; further places of the ties mean nothing.
+// Lines, and for each input the value that it is tied to, or None; further places of the ties mean nothing. A vector or a
+// setting is lent beside it for each call, so that it has a place for each input stays a clause of the call.
 #[derive(Clone, Copy)]
 pub struct Tied<'a> {
     pub lines: &'a [Line],
