@@ -104,20 +104,16 @@ then_some_is : {A : Type 0} (test : Bool) (a : A) → then_some test a ≡ only_
 then_some_is true a = refl
 then_some_is false a = refl
 
--- one pin more in the loop that looks for the least forcing time
-pub forcing_more : {Time : Type 0} (kind : Kind Time) (table count row : ℕ) (times : ℕ → Time) (pin : ℕ) (settled : ℕ → Bool) (enough : Bool) (time : Time) (kept best next : Option Time)
+-- what is kept of a pin's time is it where it forces
+pub forcing_here : {Time : Type 0} (kind : Kind Time) (table count row : ℕ) (times : ℕ → Time) (pin : ℕ) (settled : ℕ → Bool) (enough : Bool) (time : Time) (kept : Option Time)
     → time ≡ times pin
-    → ((other : ℕ) → other < count → settled other ≡ settled_by kind times time other)
+    → ((other : ℕ) → settled other ≡ settled_by kind times time other)
     → Decides enough (Forces settled table count row)
     → kept ≡ then_some enough time
-    → next ≡ first kind.at_or_before kept best
-    → best ≡ first_among kind.at_or_before (forcing_time kind table count row times) pin
-    → next ≡ first_among kind.at_or_before (forcing_time kind table count row times) (pin + 1)
-forcing_more {Time} kind table count row times pin settled enough time kept best next is told decides keeps sooner sofar =
-    let same : kept ≡ forcing_time kind table count row times pin
-    = keeps ∙ then_some_is enough time ∙ ap (λ (test : Bool). only_if test time) (forces_is enough settled table count row decides ∙ forces_same settled (settled_by kind times time) table count row told)
-    ∙ ap (λ (t : Time). only_if (forces (settled_by kind times t) table count row) t) is in
-    simp (add-one, sooner, same, sofar)
+    → kept ≡ forcing_time kind table count row times pin
+forcing_here kind table count row times pin settled enough time kept is told decides keeps =
+    keeps ∙ then_some_is enough time ∙ ap (λ (test : Bool). only_if test time) (forces_is enough settled table count row decides ∙ forces_same settled (settled_by kind times time) table count row (λ other h. told other))
+    ∙ ap (λ t. only_if (forces (settled_by kind times t) table count row) t) is
 
 -- after all pins the least forcing time is the one at which they decide
 pub forcing_all : {Time : Type 0} (kind : Kind Time) → Laws kind → (table count row : ℕ) (times : ℕ → Time) (pin : ℕ) (best : Option Time) (result : Time)

@@ -3,3 +3,4 @@ pub mod Forcing
 pub mod FirstLaws
 pub mod DecidingLaws
 pub mod PinSlots
+pub mod Walks

@@ -1,6 +1,6 @@
 // When the pins of a cell decide its output.
 ghost use Rattle.std.specs.Prelude.{◌≡◌, ℕ, ◌^◌, ◌<◌};
-ghost use Rattle.cells.specs.Deciding.{settled_by, Decided, decide, DecideDecides, DecidedOnce, EarlierDecidesNoLater, OneOutputDecidesFirst};
+ghost use Rattle.cells.specs.Deciding.{settled_by, Decided, forcing_time, decide, DecideDecides, DecidedOnce, EarlierDecidesNoLater, OneOutputDecidesFirst};
 ghost use Rattle.cells.specs.Pins.{at_pin};
 
 use crate::order::sooner_of;
@@ -16,19 +16,25 @@ fn settled_at<T: Time>(times: Pins<T>, at: T) -> Pins<bool>
 }
 
 impl Table {
+    // A pin's time, where the pins settled by then force the output in `row`.
+    fn forcing_time<T: Time>(self, row: usize, times: Pins<T>, pin: usize) -> Option<T>
+        requires row { row < 2 ^ self.pins }
+        ensures { result ≡ forcing_time T.kind self.outputs self.pins row (at_pin times) pin }
+    {
+        let time = times.get(pin);
+        let enough = self.is_forced(settled_at(times, time), row);
+        enough.then_some(time)
+    }
+
     // The time at which the pins decide the output in `row`; the start where there is no pin.
     pub fn decided_at<T: Time>(self, row: usize, times: Pins<T>) -> T
         requires row { row < 2 ^ self.pins }
         ensures value { result ≡ decide T.kind self.outputs self.pins row (at_pin times) }
         ensures decided { 0 < self.pins → Decided T.kind self.outputs self.pins row (at_pin times) result }
     {
-        let mut best = None;
-        for pin in 0..self.pins {
-            let time = times.get(pin);
-            let enough = self.is_forced(settled_at(times, time), row);
-            best = sooner_of(enough.then_some(time), best);
-        }
-        best.unwrap_or(T::start())
+        (0..self.pins)
+            .fold(None, |best, pin| sooner_of(self.forcing_time(row, times, pin), best))
+            .unwrap_or(T::start())
     }
 }
 
