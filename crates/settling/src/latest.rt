@@ -73,12 +73,10 @@ impl<T: Time> Fed<'_, T> {
     fn output_latest(&self, line: Line, value: bool) -> Option<T>
         ensures { result ≡ latest_output T.kind (latest_line self.now.work.now) line self.now.cell value }
     {
-        let mut best = None;
         // by number: a row is its number
-        for row in 0..1 << self.cell.count {
-            best = later_of(self.row_latest(line, value, row), best);
-        }
-        best
+        (0..1 << self.cell.count).fold(None, |best, row| {
+            later_of(self.row_latest(line, value, row), best)
+        })
     }
 }
 
