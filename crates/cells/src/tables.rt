@@ -33,13 +33,9 @@ impl Table {
         ensures row { result ≡ row self.pins (at_pin values) }
         ensures below { result < 2 ^ self.pins }
     {
-        let mut row = 0;
-        for pin in 0..self.pins {
-            if values.get(pin) {
-                row += 1 << pin;
-            }
-        }
-        row
+        (0..self.pins).fold(0, |row, pin| {
+            if values.get(pin) { row + (1 << pin) } else { row }
+        })
     }
 
     // The output in a row.
