@@ -1,6 +1,7 @@
 -- The words at the front of a text. Assumes nothing.
 use Rattle.std.proofs.Common.{◌≡◌, ℕ, zero, suc, ◌+◌, ◌-◌, ◌<◌, ◌≤◌, Bool, true, false, cond, eqb, leb, ◌⊎◌, List, [], ◌∷◌, length, get_or, take, drop, Some, None, sym, refl, ap, ◌∙◌, subst, inl, inr, add-one, arith, eq-eqb, eqb-true, le-leb}
 use Rattle.std.specs.List.{prefix_len}
+use Rattle.std.proofs.lemmas.List.{drop_more, length-drop}
 use Rattle.names.specs.Names.{letter, digit, name_byte, star}
 use Rattle.sheets.specs.Sheet.{Name, CellWord, Delay}
 use Rattle.sheets.specs.Recogniser.{Item, Outcome, step, open_brackets, outcome, may_end}
@@ -117,6 +118,12 @@ word_at (suc n) (suc k) (b ∷ bs) r f l h g =
     let more = word_at n k bs r (front_tail star k b bs n f) (omega arith) h (subst (λ m. Front name_byte m (drop (suc n) bs) r) same g) in
     let starred : b ≡ 42 = eqb-true b 42 f.all.0 in
     (omega (arith, more.0), inl (starred, more.1), λ t ok. goes 9 (Item.word (suc k) ∷ t) b bs ok ∙ ap (λ o. outcome 9 o bs) (left (letter b) _ _ (ap letter starred) ∙ taken (eqb b 42) _ _ f.all.0) ∙ more.2 t ok)
+
+-- the rest after the first n bytes, where there is one
+pub rest_more : (s rest : List ℕ) (n : ℕ) → rest ≡ drop n s → 1 ≤ length rest → (n < length s) × (rest ≡ get_or s n 0 ∷ drop (n + 1) s)
+rest_more s rest n e l =
+    let more : n < length s = omega (arith, l, ap length e, length-drop n s) in
+    (more, e ∙ drop_more s n 0 more)
 
 pub word_yes : (s tail : List ℕ) (n r : ℕ) → Front star 7 s n → n < length s → letter (get_or s n 0) ≡ true → tail ≡ drop (n + 1) s → Front name_byte (7 - n) tail r → WordFront CellWord (Item.word 7) s (n + 1 + r)
 word_yes s tail n r f l h e g =

@@ -1,5 +1,5 @@
 // The length of the word at the front of a text, or how many bytes one could begin with.
-ghost use Rattle.std.specs.Prelude.{◌≡◌, ℕ, ◌≤◌, Bool};
+ghost use Rattle.std.specs.Prelude.{◌≡◌, ℕ, ◌≤◌, Bool, length};
 ghost use Rattle.std.specs.Result.{MatchResult};
 ghost use Rattle.sheets.specs.Sheet.{Name, CellWord, Delay};
 ghost use Rattle.sheets.specs.Recogniser.{Item};
@@ -11,6 +11,7 @@ use names::{is_digit, is_letter, is_name_byte, is_star};
 fn front_len<F: Fn(u8) -> bool>(s: &[u8], most: usize, test: F) -> usize
     requires { F.IsAlwaysCallable test }
     ensures few { result ≤ most }
+    ensures within { result ≤ length s.now }
     ensures front { (passes : ℕ → Bool) → ((b : ℕ) (r : Bool) → F.post test b r → r ≡ passes b) → Front passes most s.now result }
 {
     s.iter().take(most).take_while(|b| test(**b)).count()
@@ -30,30 +31,28 @@ pub(crate) fn byte_len(s: &[u8], byte: u8) -> Result<usize, usize>
 pub(crate) fn name_len(s: &[u8]) -> Result<usize, usize>
     ensures { MatchResult result (λ n. WordFront Name Item.name s.now n) (λ k. NoWordFront Item.name s.now k) }
 {
-    if s.is_empty() || !is_letter(s[0]) {
-        return Err(0);
+    match s {
+        [first, rest @ ..] if is_letter(*first) => Ok(1 + front_len(rest, 7, is_name_byte)),
+        _ => Err(0),
     }
-    Ok(1 + front_len(&s[1..], 7, is_name_byte))
 }
 
 pub(crate) fn cell_word_len(s: &[u8]) -> Result<usize, usize>
     ensures { MatchResult result (λ n. WordFront CellWord (Item.word 7) s.now n) (λ k. NoWordFront (Item.word 7) s.now k) }
 {
     let n = front_len(s, 7, is_star);
-    if n >= s.len() || !is_letter(s[n]) {
-        return Err(n);
+    match &s[n..] {
+        [first, rest @ ..] if is_letter(*first) => Ok(n + 1 + front_len(rest, 7 - n, is_name_byte)),
+        _ => Err(n),
     }
-    Ok(n + 1 + front_len(&s[n + 1..], 7 - n, is_name_byte))
 }
 
 pub(crate) fn delay_len(s: &[u8]) -> Result<usize, usize>
     ensures { MatchResult result (λ n. WordFront Delay Item.delay s.now n) (λ k. NoWordFront Item.delay s.now k) }
 {
-    if s.is_empty() || !is_digit(s[0]) {
-        return Err(0);
+    match s {
+        [b'0', ..] => Ok(1),
+        [first, rest @ ..] if is_digit(*first) => Ok(1 + front_len(rest, 6, is_digit)),
+        _ => Err(0),
     }
-    if s[0] == b'0' {
-        return Ok(1);
-    }
-    Ok(1 + front_len(&s[1..], 6, is_digit))
 }
