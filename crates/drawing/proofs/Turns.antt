@@ -49,20 +49,6 @@ module _ (p : Picture) (name : List ℕ) (place : ℕ) where
   pub form_name : (a : Answer (Unit {0})) → p.open_cells ≡ [] → name_free place name p.sketch ≡ a → draw_name p name place ≡ named a
   form_name a e h = ap name_by e ∙ ap named h
 
-  pub pin_missing : 0 < length p.open_cells → line_named 0 name p.sketch.names ≡ None → draw_name p name place ≡ Answer.refused 3 place
-  pin_missing l e = by p.open_cells l
-    where
-      by : (cells : List Opened) → 0 < length cells → name_by cells ≡ Answer.refused 3 place
-      by [] l = absurd (omega arith)
-      by (c ∷ cs) l = ap (pin_by c cs) e
-
-  pub pin_found : (line : ℕ) → 0 < length p.open_cells → line_named 0 name p.sketch.names ≡ Some line → draw_name p name place ≡ Answer.done (with_cells p (inner_pin line p.open_cells))
-  pin_found line l e = by p.open_cells l
-    where
-      by : (cells : List Opened) → 0 < length cells → name_by cells ≡ Answer.done (with_cells p (inner_pin line cells))
-      by [] l = absurd (omega arith)
-      by (c ∷ cs) l = ap (pin_by c cs) e
-
 -- Delays.
 
 pub delay_by : (p : Picture) (digits : List ℕ) (place : ℕ) (a : Answer ℕ) → delay_from place digits ≡ a → draw_delay p digits place ≡ then a (λ delay. Answer.done (delayed p p.open_cells delay))

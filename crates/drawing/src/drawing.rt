@@ -40,13 +40,9 @@ impl Pen {
             self.name = Name::of(bytes);
             return Ok(());
         }
-        match draft.line_named(bytes) {
-            None => Err(SheetFault::NoLine { place }),
-            Some(line) => {
-                self.stack.add_pin(line);
-                Ok(())
-            }
-        }
+        let line = draft.line_named(bytes).ok_or(SheetFault::NoLine { place })?;
+        self.stack.add_pin(line);
+        Ok(())
     }
 
     // A delay: between cells it ends an input form.
@@ -74,11 +70,7 @@ impl Pen {
     fn label(&self) -> Option<&[u8]>
         ensures { option_copied result ≡ label (bytes_of self.now.name) (open_stack self.now.stack) }
     {
-        if self.stack.is_empty() {
-            Some(self.name.as_bytes())
-        } else {
-            None
-        }
+        self.stack.is_empty().then_some(self.name.as_bytes())
     }
 
     // A closing bracket: of the innermost open cell, which is added and is a pin of the cell around it, or of a form.

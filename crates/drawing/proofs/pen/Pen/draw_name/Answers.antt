@@ -4,9 +4,8 @@ use Rattle.network.specs.Drafts.{sketch}
 use Rattle.network.specs.Refusals.{Checked, NameWrong}
 use Rattle.drawing.specs.Drawing.{Answer}
 use Rattle.drawing.specs.Pens.{picture}
-use Rattle.drawing.specs.Pictures.{with_cells}
 use Rattle.drawing.proofs.Steps.{name_refused, name_fine}
-use Rattle.drawing.proofs.Turns.{placed_ok, draft_broke, form_name, pin_missing, pin_found}
+use Rattle.drawing.proofs.Turns.{placed_ok, draft_broke, form_name}
 use Rattle.drawing.proofs.pen.Pen.draw_name.Goals as goal
 
 pub returns-in_err-at : goal.returns-in_err-at
@@ -29,12 +28,3 @@ returns-then-is_empty c =
     form_name p name place _ none (name_fine s name place (subst (Checked (NameWrong s name)) ok c.check_name.ensures))
     ∙ ap (λ v. Answer.done (record { sketch = s; name = v; open_cells = [] })) (sym c.of-self.ensures)
     ∙ ap (λ v. Answer.done (record { sketch = s; name = bytes_of c.of-self.result; open_cells = v })) (sym none)
-
-pub returns-in-None : goal.returns-in-None
-returns-in-None c = pin_missing (picture c.args.self.now (sketch c.args.draft.now)) c.args.bytes.now c.args.place c.if-is_empty.ensures (sym c.in-None.ensures.value)
-
-pub returns-in-Some : goal.returns-in-Some
-returns-in-Some c =
-    let s = sketch c.args.draft.now in
-    pin_found (picture c.args.self.now s) c.args.bytes.now c.args.place c.in-Some.line c.if-is_empty.ensures (sym c.in-Some.ensures.value)
-    ∙ ap (λ v. Answer.done (with_cells (picture c.args.self.now s) v)) (sym c.add_pin.ensures)
