@@ -17,7 +17,7 @@ pub enum SheetFault {
     Draft { fault: DraftFault, place: usize },
 }
 
-// A draft's refusal beside its place.
+// A draft's refusal beside its place. By a rule of this project `?` turns it into a sheet's by `From`, which takes one value.
 #[derive(Clone, Copy)]
 pub(crate) struct Placed {
     pub(crate) fault: DraftFault,

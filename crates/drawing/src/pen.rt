@@ -30,7 +30,7 @@ pub(crate) struct Pen {
     pub(crate) name: Name,
 }
 
-// A cell of which only the opening bracket was drawn, at the start.
+// A cell of which only the opening bracket was drawn, at the start. `ArrayVec` asks for a default, and a `Name` has none to derive it from.
 impl Default for OpenCell {
     ghost is_default = { λ cell. opened cell ≡ just_open 0 };
 

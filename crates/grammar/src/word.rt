@@ -8,6 +8,7 @@ pub enum Opening {
     Cell,
 }
 
+// By a rule of this project each kind of word is a case that holds its part of the sheet and its place.
 #[derive(Clone, Copy)]
 pub enum Word<'a> {
     Open(Opening, &'a [u8], usize),
