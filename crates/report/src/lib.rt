@@ -3,6 +3,7 @@
 
 mod answering;
 pub mod desk;
+mod forms;
 mod plan;
 mod planning;
 mod printing;

@@ -10,7 +10,7 @@ use Rattle.report.specs.Answers.{line_forms}
 use Rattle.report.specs.Told.{told_forms}
 use Rattle.report.proofs.FormLaws.{reaches_printed}
 use Rattle.report.proofs.Presence.{plan_reaches, replies_beside}
-use Rattle.report.proofs.answering.push_forms.Goals as goal
+use Rattle.report.proofs.forms.Forms.answer.Goals as goal
 
 -- with buffers for the most lines nothing is wrong
 nothing_wrong : (lines ceilings room calls n : ℕ) → lines ≤ max_lines → ceilings ≡ 2 * max_lines → max_lines ≤ room → calls ≤ max_lines → ReplayWrong lines ceilings room calls n → ⊥
@@ -21,7 +21,7 @@ pub unreachable-requires : goal.unreachable-requires
 unreachable-requires c =
     let network = c.args.network in
     let plan = c.ask_all.new.self in
-    nothing_wrong _ _ _ _ _ (omega (arith, network.sizes.1, network.lines.ok.0)) c.requires.doubled c.requires.replied (omega (arith, plan.shared, plan.calls.ok.0)) c.in_default.ensures.fits
+    nothing_wrong _ _ _ _ _ (omega (arith, network.sizes.1, network.lines.ok.0)) c.args.self.doubled c.args.self.replied (omega (arith, plan.shared, plan.calls.ok.0)) c.in_default.ensures.fits
 
 pub push_replies-requires : goal.push_replies-requires
 push_replies-requires c =
@@ -30,7 +30,7 @@ push_replies-requires c =
     let replies = c.in-Ok.replies in
     let even = replies_beside network plan (map told (vec_items replies)) c.ask_all.ensures c.in-Ok.ensures.1 ∙ length-map (vec_items replies) told in
     record {
-      room = omega (arith, c.requires.blank, plan.shared, plan.beside, plan.names.ok.0, replies.ok.0, even);
+      room = omega (arith, c.args.self.blank, plan.shared, plan.beside, plan.names.ok.0, replies.ok.0, even);
       few = omega (arith, c.input_count-inputs.ensures, network.counted, network.sizes.2);
     }
 
@@ -44,5 +44,5 @@ returns c =
     record {
       text = told_forms (inputs (vec_items network.lines)) (map (λ form. form.name) (line_forms (sealed network))) replies;
       printed = reaches_printed (vec_items network.lines) (line_forms (sealed network)) replies reaches;
-      added = c.push_replies.ensures ∙ (λ i. vec_items c.args.text.now.bytes ++ told_forms (c.input_count-inputs.ensures i) (names i) replies);
+      added = c.push_replies.ensures ∙ (λ i. vec_items c.args.self.text.bytes ++ told_forms (c.input_count-inputs.ensures i) (names i) replies);
     }
