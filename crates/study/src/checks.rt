@@ -1,6 +1,6 @@
 // Whether a study refuses a call, and if so with the smallest number that fits.
-ghost use Rattle.std.specs.Prelude.{◌<◌, ◌≤◌, ◌⊎◌, length};
-ghost use Rattle.turns.specs.declared.fault.StudyFault.TheVariants.{NoLine, NoBit, ShortBuffer};
+ghost use Rattle.std.specs.Prelude.{◌≡◌, ◌<◌, ◌≤◌, ◌⊎◌, length, slice_index_or, None, IfOk, IfErr};
+ghost use Rattle.turns.specs.declared.fault.StudyFault.TheVariants.{NoLine, NoBit, ShortBuffer, TieAgainst};
 ghost use Rattle.turns.specs.Refusals.{Checked, SettleWrong, SeekWrong, WorstWrong, ShortenWrong, LengthenWrong, TieWrong, UntieWrong};
 ghost use Rattle.study.specs.Standing.{plain_of, Tests, DelayAt};
 
@@ -106,9 +106,7 @@ impl<T: Time> Study<T> {
         if delay > MAX_DELAY {
             return Err(StudyFault::DelayAbove);
         }
-        if line >= self.lines.len() {
-            return Err(StudyFault::NoLine);
-        }
+        self.check_line(line)?;
         Ok(self.lines[line].delay)
     }
 
@@ -132,16 +130,24 @@ impl<T: Time> Study<T> {
         Ok(())
     }
 
+    // An input's tie, if it has one; a cell is refused.
+    fn tie_at(&self, line: usize) -> Result<Option<bool>, StudyFault>
+        ensures input { IfOk result (λ tie. (line < length (plain_of self.now).ties) × (tie ≡ slice_index_or (plain_of self.now).ties line None)) }
+        ensures cell { IfErr result (λ fault. (fault ≡ TieAgainst) × (length (plain_of self.now).ties ≤ line)) }
+    {
+        if line >= self.inputs {
+            return Err(StudyFault::TieAgainst);
+        }
+        Ok(self.ties[line])
+    }
+
     // Whether a tie is refused, by its line and value.
     pub(crate) fn check_tie(&self, line: usize, value: u8) -> Result<(), StudyFault>
         ensures { Checked (TieWrong (plain_of self.now) line value) result }
     {
         self.check_line(line)?;
         check_bit(value)?;
-        if line >= self.inputs {
-            return Err(StudyFault::TieAgainst);
-        }
-        if self.ties[line].is_some() {
+        if self.tie_at(line)?.is_some() {
             return Err(StudyFault::TieAgainst);
         }
         Ok(())
@@ -152,10 +158,7 @@ impl<T: Time> Study<T> {
         ensures { Checked (UntieWrong (plain_of self.now) line) result }
     {
         self.check_line(line)?;
-        if line >= self.inputs {
-            return Err(StudyFault::TieAgainst);
-        }
-        if self.ties[line].is_none() {
+        if self.tie_at(line)?.is_none() {
             return Err(StudyFault::TieAgainst);
         }
         Ok(())
