@@ -1,7 +1,7 @@
 -- The fields of a study: ties in the first places of an array, ceilings in those of a buffer, lawful lines. Assumes nothing.
 use Rattle.std.proofs.Common.{◌≡◌, ℕ, zero, suc, ◌*◌, ◌<◌, ◌≤◌, Bool, true, false, not, List, [], ◌∷◌, length, get_or, take, set, replicate, is_some, Some, None, Option, sym, refl, ap, ◌∙◌, subst, ⊎_elim, arith}
 use mathlib.Core.Logic.{∥∥₁_map}
-use Rattle.std.proofs.lemmas.List.{get_or-take, get_or_read_under, length-take-le}
+use Rattle.std.proofs.lemmas.List.{get_or_read_under, length-take-le}
 use Rattle.std.proofs.lemmas.Bool.{cases_lt}
 use Rattle.lines.specs.declared.line.Line.{Line}
 use Rattle.lines.specs.Limits.{max_delay, max_inputs}
@@ -37,15 +37,6 @@ take_set zero ties i o h = absurd (omega arith)
 take_set (suc n) [] i o h = refl
 take_set (suc n) (t ∷ ties) zero o h = refl
 take_set (suc n) (t ∷ ties) (suc i) o h = ap (λ s. t ∷ s) (take_set n ties i o (omega arith))
-
-pub tie_at : (n : ℕ) (ties : Setting) (i : ℕ) (o : Option Bool) → i < n → get_or ties i None ≡ o → get_or (take n ties) i None ≡ o
-tie_at n ties i o h e = get_or-take n ties i None h ∙ e
-
-pub tie_past : (n : ℕ) (ties : Setting) (i : ℕ) → n ≤ i → get_or (take n ties) i None ≡ None
-tie_past zero ties i h = refl
-tie_past (suc n) [] i h = refl
-tie_past (suc n) (t ∷ ties) zero h = absurd (omega arith)
-tie_past (suc n) (t ∷ ties) (suc i) h = tie_past n ties i (omega arith)
 
 none_tied : (n m : ℕ) → n ≤ m → take n (replicate {A = Option Bool} m None) ≡ replicate n None
 none_tied zero m h = refl
