@@ -13,7 +13,8 @@ use std::alloc::{AllocError, Global};
 // The most bytes of an answer.
 const MAX_ANSWER: usize = 64 * MAX_LINES;
 
-// The text of an answer so far, with room for the most that it can come to.
+// The text of an answer so far, with room for the most that it can come to. How much of it must still be free differs from
+// call to call, so it stays a clause of each.
 #[derive(Drop)]
 pub(crate) struct Text {
     pub(crate) bytes: Vec<u8>,

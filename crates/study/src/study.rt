@@ -9,7 +9,7 @@ use lines::line::Line;
 // A network's lines with their present delays, the ties of its inputs, and for each line and value at most one ceiling:
 // a bound at or after which no vector that agrees with the ties settles the line to the value.
 // The ceiling of line L and value V stands at place 2L+V. The ties lie in an array, with how many of its places count, since
-// to open a study can want no memory.
+// to open a study can want no memory. `Keeps` relates a study before a call to the one after it, so it is no invariant.
 #[derive(Drop)]
 pub struct Study<T> {
     pub(crate) lines: Vec<Line>,

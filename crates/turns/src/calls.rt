@@ -5,7 +5,7 @@ use seeking::seek::Looked;
 use settling::latest::Latest;
 
 // A call with its arguments and buffers. Values and vectors are bytes 0 and 1, and not `bool`, since the call itself refuses
-// another byte.
+// another byte; what is written is as what is read.
 #[derive(Drop)]
 pub enum Call<T> {
     // The final value and settle time of every line under a vector.
