@@ -1,10 +1,10 @@
 -- When the pins of a cell decide its output: the computed time is the least that forces, it is the only one, and earlier pins decide no later.
 -- Assumes nothing.
-use Rattle.std.proofs.Common.{◌≡◌, ℕ, ◌+◌, ◌^◌, ◌<◌, Bool, true, false, ◌⊎◌, Decides, Option, unwrap_or, sym, refl, ap, ◌∙◌, subst, ⊎_elim, add-one}
+use Rattle.std.proofs.Common.{◌≡◌, ℕ, ◌^◌, ◌<◌, Bool, true, false, ◌⊎◌, Decides, Option, unwrap_or, sym, refl, ap, ◌∙◌, subst, ⊎_elim}
 use Rattle.std.specs.Bool.{then_some}
 use Rattle.times.specs.Kind.{Kind, NoLater, Laws}
 use Rattle.cells.specs.Deciding.{settled_by, Decided, forcing_time, decide, OneOutputDecidesFirst}
-use Rattle.cells.specs.Firsts.{FirstPassing, at_or_after, first, first_among, only_if}
+use Rattle.cells.specs.Firsts.{FirstPassing, at_or_after, first_among, only_if}
 use Rattle.cells.specs.Tables.{Forces, forces}
 use Rattle.cells.proofs.FirstLaws.{first_passing}
 use Rattle.cells.proofs.Forcing.{forces_to, forces_from, forces_more, forces_all, forces_same, forces_is}

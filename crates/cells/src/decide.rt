@@ -33,7 +33,10 @@ impl Table {
         ensures decided { 0 < self.pins → Decided T.kind self.outputs self.pins row (at_pin times) result }
     {
         (0..self.pins)
-            .fold(None, |best, pin| sooner_of(self.forcing_time(row, times, pin), best))
+            .fold(
+                None,
+                |best, pin| sooner_of(self.forcing_time(row, times, pin), best),
+            )
             .unwrap_or(T::start())
     }
 }

@@ -48,6 +48,7 @@ impl<X: Copy> Pins<X> {
             _ => Pins { three: new, ..self },
         }
     }
+
     // What a function makes of what stands at each pin.
     pub fn map<Y: Copy, F: Fn(X) -> Y>(self, f: F) -> Pins<Y>
         requires { F.IsAlwaysCallable f }

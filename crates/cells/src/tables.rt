@@ -34,7 +34,11 @@ impl Table {
         ensures below { result < 2 ^ self.pins }
     {
         (0..self.pins).fold(0, |row, pin| {
-            if values.get(pin) { row + (1 << pin) } else { row }
+            if values.get(pin) {
+                row + (1 << pin)
+            } else {
+                row
+            }
         })
     }
 

@@ -11,7 +11,8 @@ use lines::limits::MAX_LINES;
 use lines::line::{Driver, Line};
 use times::time::Time;
 
-// Whether two times, each of which may be missing, are the same, by their order: a kind of time has no equality of its own.
+// Whether two times, each of which may be missing, are the same, by their order: a kind of time has no
+// equality of its own, and to ask for one would ask more of every kind.
 fn is_same_time<T: Time>(a: Option<T>, b: Option<T>) -> bool
     ensures { Decides result (a ≡ b) }
 {

@@ -15,9 +15,9 @@ returns g c =
     let kind = g.T.Time.kind in
     let table = c.args.self in
     let best = folded _ _ table.pins (λ pin best. best ≡ first_among kind.at_or_before (forcing_time kind table.outputs table.pins c.args.row (at_pin c.args.times)) pin)
-      (λ i b r q l inv k. 
-      let told : r ≡ first kind.at_or_before (forcing_time kind table.outputs table.pins c.args.row (at_pin c.args.times) i) b = search rules in
-      (search rules, simp (add-one, told, inv))) _ _ refl refl c.fold.result c.fold.ensures.ran in
+    (λ i b r q l inv k.
+    let told : r ≡ first kind.at_or_before (forcing_time kind table.outputs table.pins c.args.row (at_pin c.args.times) i) b = search rules in
+    (search rules, simp (add-one, told, inv))) _ _ refl refl c.fold.result c.fold.ensures.ran in
     let decided = forcing_all kind g.met.T.Time.lawful table.outputs table.pins c.args.row (at_pin c.args.times) table.pins c.fold.result c.unwrap_or.result
     refl best c.requires.row (cc) in
     record { value = decided.0; decided = decided.1 }

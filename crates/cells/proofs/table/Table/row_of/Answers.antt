@@ -1,4 +1,4 @@
-use Rattle.std.proofs.Common.{◌≡◌, ℕ, ◌+◌, ◌^◌, ◌<◌, ◌≤◌, cond, add-one, refl, subst, sym, ap, ◌∙◌, rules, arith, pow_mono}
+use Rattle.std.proofs.Common.{◌≡◌, ◌+◌, ◌^◌, ◌<◌, ◌≤◌, cond, add-one, refl, rules, arith, pow_mono}
 use borrow.Author.Tests.{tests}
 use Rattle.std.proofs.lemmas.Nat.{one_shl}
 use Rattle.cells.specs.Pins.{at_pin}
