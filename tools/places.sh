@@ -20,6 +20,7 @@ src '^ +(pub(\([a-z]+\))? )?[a-z_]+: bool,$' | count '1 fields and parameters th
 src '\-> u8|value: u8' | count '1 numbers answered, values as bytes'
 src 'Result<Result<' | count '1 results in results'
 python3 tools/twins.py 0.85 | grep -v 'pairs of' | count '2 functions alike (tools/twins.py 0.85)'
+python3 tools/twins.py 0.85 30 | grep -v 'pairs of' | count '2 of 30 tokens or more (tools/twins.py 0.85 30)'
 src '^\s*(while|loop)\b|for .* in .*\.\.|[a-z] \+= 1;' | count '3 loops that count, or that go over numbers'
 grep -rnB3 -E --include=*.rt '^ +return (true|false|i|Some\(.*\)|Err\(.*\));' crates/*/src | grep -E 'for .* in ' | count '3 loops that look for one item'
 src 'fn (at_or_before|is_same|is_same_time|text|read|named|byte_of|digit|digit_of|value|at|is_letter|is_digit|push_number|push_bytes|push_vector|push_refused|push_worst|push_settled|refused)\b' | count '4 comparison, conversion and printing by hand'

@@ -1,7 +1,9 @@
 #!/usr/bin/env python3
 """Pairs of functions in crates/*/src whose bodies are alike but for names, types and numbers.
 
-usage: tools/twins.py [LEAST]     LEAST: how alike two bodies have to be, from 0 to 1 (0.8 where it is left out)
+usage: tools/twins.py [LEAST [SHORT]]
+    LEAST: how alike two bodies have to be, from 0 to 1 (0.8 where it is left out)
+    SHORT: bodies with fewer tokens are passed over (12 where it is left out)
 """
 import difflib
 import glob
@@ -40,9 +42,10 @@ def functions(path):
 
 def main():
     least = float(sys.argv[1]) if len(sys.argv) > 1 else 0.8
+    short = int(sys.argv[2]) if len(sys.argv) > 2 else 12
     every = [(path.removeprefix("crates/"), name, body)
              for path in sorted(glob.glob("crates/*/src/*.rt"))
-             for name, body in functions(path) if len(body) >= 12]
+             for name, body in functions(path) if len(body) >= short]
     pairs = 0
     for i, (path, name, body) in enumerate(every):
         for other_path, other_name, other in every[i + 1:]:
