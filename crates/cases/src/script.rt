@@ -107,19 +107,38 @@ fn read_kind(words: &mut Words) -> anyhow::Result<Kind> {
     }
 }
 
+fn read_entry<'a>(words: &mut Words<'a>) -> anyhow::Result<Step<'a>> {
+    let name = words.word()?;
+    let pins = words.number()?;
+    let table = words.table()?;
+    let name = words.decoded(name)?;
+    Ok(Step::Entry { name, pins, table })
+}
+
+fn read_ask<'a>(words: &mut Words<'a>) -> anyhow::Result<Step<'a>> {
+    let word = words.word()?;
+    let pins = words.number()?;
+    let word = words.decoded(word)?;
+    Ok(Step::Ask { word, pins })
+}
+
 fn read_input<'a>(words: &mut Words<'a>) -> anyhow::Result<DraftStep<'a>> {
-    Ok(DraftStep::Input {
-        name: words.bytes()?,
-        delay: words.number()?,
-    })
+    let name = words.word()?;
+    let delay = words.number()?;
+    let name = words.decoded(name)?;
+    Ok(DraftStep::Input { name, delay })
 }
 
 fn read_cell<'a>(words: &mut Words<'a>) -> anyhow::Result<DraftStep<'a>> {
+    let name = words.word()?;
+    let word = words.word()?;
+    let delay = words.number()?;
+    let pins = words.numbers()?;
     Ok(DraftStep::Cell(CellStep {
-        name: words.name()?,
-        word: words.bytes()?,
-        delay: words.number()?,
-        pins: words.numbers()?,
+        word: words.decoded(word)?,
+        name: words.decoded_name(name)?,
+        delay,
+        pins,
     }))
 }
 
@@ -135,10 +154,10 @@ fn read_sizes(words: &mut Words) -> anyhow::Result<Option<Sizes>> {
 }
 
 fn read_settle<'a>(words: &mut Words<'a>) -> anyhow::Result<StudyStep<'a>> {
-    Ok(StudyStep::Settle {
-        vector: words.digits()?,
-        sizes: read_sizes(words)?,
-    })
+    let vector = words.word()?;
+    let sizes = read_sizes(words)?;
+    let vector = words.decoded_vector(vector)?;
+    Ok(StudyStep::Settle { vector, sizes })
 }
 
 fn read_seek<'a>(words: &mut Words<'a>) -> anyhow::Result<StudyStep<'a>> {
@@ -190,16 +209,9 @@ fn read_call<'a>(words: &mut Words<'a>) -> anyhow::Result<Step<'a>> {
             time: words.word()?,
             delay: words.number()?,
         },
-        "entry" => Step::Entry {
-            name: words.bytes()?,
-            pins: words.number()?,
-            table: words.table()?,
-        },
+        "entry" => read_entry(words)?,
         "library" => Step::Library,
-        "ask" => Step::Ask {
-            word: words.bytes()?,
-            pins: words.number()?,
-        },
+        "ask" => read_ask(words)?,
         "draft" => Step::Draft(DraftStep::New),
         "input" => Step::Draft(read_input(words)?),
         "cell" => Step::Draft(read_cell(words)?),

@@ -51,23 +51,23 @@ impl<'a> Words<'a> {
         Ok(numbers)
     }
 
-    // The bytes of a name or a cell word: each as it is written, or as `%` and two hexadecimal digits; a lone `%` is none.
-    pub fn bytes(&mut self) -> anyhow::Result<Vec<u8>> {
-        bytes_of(self.heap, self.word()?)
+    // The bytes that a name or a cell word stands for: each as it is written, or as `%` and two hexadecimal digits; a lone
+    // `%` is none. A line's words are all read before one is decoded: a word that is missing or no number is told first.
+    pub fn decoded(&self, word: &str) -> anyhow::Result<Vec<u8>> {
+        bytes_of(self.heap, word)
     }
 
     // The same; a lone `-` is no name.
-    pub fn name(&mut self) -> anyhow::Result<Option<Vec<u8>>> {
-        match self.word()? {
+    pub fn decoded_name(&self, word: &str) -> anyhow::Result<Option<Vec<u8>>> {
+        match word {
             "-" => Ok(None),
-            word => Ok(Some(bytes_of(self.heap, word)?)),
+            word => Ok(Some(self.decoded(word)?)),
         }
     }
 
     // The bytes of a vector, a digit for each; a lone `-` is none.
-    pub fn digits(&mut self) -> anyhow::Result<Vec<u8>> {
+    pub fn decoded_vector(&self, word: &str) -> anyhow::Result<Vec<u8>> {
         let mut bytes = Vec::new(self.heap);
-        let word = self.word()?;
         if word == "-" {
             return Ok(bytes);
         }
