@@ -10,9 +10,10 @@ use std::io::{Read, Write};
 
 // Standard input to its end; a longer input than a sheet can be is read only so far that it is seen to be longer.
 fn read_input(rt: &HostRuntime) -> anyhow::Result<Vec<u8>> {
-    let mut sheet = Vec::with_capacity(rt.alloc(), MAX_SHEET + 1)?;
-    let most = MAX_SHEET as u64 + 1;
-    rt.stdin().take(most).read_to_end(&mut sheet)?;
+    let most = MAX_SHEET + 1;
+    // one place more than is read, or the reading would ask for memory to see that no byte is left
+    let mut sheet = Vec::with_capacity(rt.alloc(), most + 1)?;
+    rt.stdin().take(most as u64).read_to_end(&mut sheet)?;
     Ok(sheet)
 }
 
