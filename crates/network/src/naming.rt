@@ -9,5 +9,8 @@ use names::name::Name;
 pub(crate) fn find_line(names: &[Option<Name>], name: &[u8]) -> Option<usize>
     ensures { result ≡ line_named 0 name.now (map name_bytes names.now) }
 {
-    names.iter().position(|kept| kept.is_some_and(|own| is_same_word(name, own.as_bytes())))
+    // by `as_ref`: each name is looked at where it stands, and not copied
+    names.iter().position(|kept| kept
+        .as_ref()
+        .is_some_and(|own| is_same_word(name, own.as_bytes())))
 }
