@@ -1,7 +1,6 @@
-use Rattle.std.proofs.Common.{sym, refl, ap, ◌∙◌, arith}
+use Rattle.std.proofs.Common.{◌≡◌, ℕ, List, Option, sym, refl, ◌∙◌, rules, arith}
 use Rattle.std.proofs.lemmas.Result.{err_from_is_err_and}
-use Rattle.network.specs.Drafts.{sketch}
-use Rattle.network.specs.Sketches.{with_cell}
+use Rattle.network.specs.Sketches.{Sketch, with_cell}
 use Rattle.network.proofs.Refused.{slow_then, cell_word, cell_label, cell_no_table, cell_delay, cell_full, cell_pin, cell_fine}
 use Rattle.network.proofs.draft.Draft.add_cell.Goals as goal
 
@@ -36,8 +35,12 @@ push_cell-requires g c =
       few = law.few_pins;
       lower = λ pin h. omega (arith, c.if-not-are_below.ensures pin h);
       fits = law.fits;
-      slow = slow_then _ c.in_ok-check_delay.ensures;
+      slow = omega (arith, slow_then _ c.in_ok-check_delay.ensures);
     }
+
+-- the line that was added, by its name and delay
+added : (s : Sketch) (table : ℕ) (pins : List ℕ) {name own : Option (List ℕ)} {given delay : ℕ} → name ≡ own → given ≡ delay → with_cell s name table given pins ≡ with_cell s own table delay pins
+added s table pins e f = cc
 
 pub returns : goal.returns
 returns g c =
@@ -46,5 +49,5 @@ returns g c =
       table = c.in-Some.table;
       assigned = sym c.in-Some.ensures;
       number = omega arith;
-      sketch = c.push_cell.ensures ∙ ap (λ v. with_cell (sketch c.args.self.now) v c.in-Some.table c.args.delay c.args.pins.now) c.in_ok-kept.ensures.kept;
+      sketch = c.push_cell.ensures ∙ added _ _ _ c.in_ok-kept.ensures.kept (search rules);
     }
