@@ -1,4 +1,4 @@
-use Rattle.std.proofs.Common.{arith}
+use Rattle.std.proofs.Common.{set, ap, ◌∙◌, arith}
 use Rattle.lines.specs.Lines.{no_line}
 use Rattle.lines.proofs.Lawfuls.{lawful_at, lawful_of}
 use Rattle.settling.specs.Settle.{tied_by}
@@ -14,7 +14,8 @@ line_latest-requires-clause-driver g c =
 pub loop-number-preserved : goal.loop-number-preserved
 loop-number-preserved g c =
     let lines = c.args.self.lines.now in
-    latest_more g.T.Time.kind g.met.T.Time.lawful (tied_by c.args.self.ties.now) lines (in_setting c.args.setting.now) (lawful_of lines c.args.self.lawful) c.loop-number.number c.loop-number.work c.args.work.now c.loop-number.invariant
+    ap (λ k. set c.loop-number.work k c.line_latest.result) (omega arith)
+    ∙ latest_more g.T.Time.kind g.met.T.Time.lawful (tied_by c.args.self.ties.now) lines (in_setting c.args.setting.now) (lawful_of lines c.args.self.lawful) c.loop-number.number c.loop-number.work c.args.work.now c.loop-number.invariant
     (omega arith) (omega arith) c.line_latest.result c.line_latest.ensures
 
 pub returns : goal.returns
